@@ -1,0 +1,4 @@
+pub mod Bytes
+pub mod Every
+pub mod Outcome
+pub mod Table

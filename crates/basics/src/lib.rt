@@ -1,0 +1,1 @@
+// Definitions and laws that every crate shares; there is no code here.

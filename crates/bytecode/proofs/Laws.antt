@@ -1,0 +1,81 @@
+-- The laws of a length, for document 01's rule and for any other, and that an answer is told by its numbers.
+-- Assumes nothing.
+use Prim.Native.Nat.{ℕ, zero, suc, _+_, _≤_, _<_}
+use native.Mathlib.Omega.{arith}
+use mathlib.Core.Path.{_≡_, refl, sym}
+use mathlib.Core.Bool.{Bool, true, false}
+use mathlib.Core.List.{List}
+use lib.Dec.{eqb, leb}
+use lib.ListN.{length}
+use borrow.Author.Tests.{leb-true}
+use Rattle.basics.specs.Bytes.{byteAt}
+use Rattle.basics.specs.Choice.{pick}
+use Rattle.jvms.specs.Format.{Format, fixed, tableswitch, lookupswitch, wide, reserved, formatOf}
+use Rattle.bytecode.specs.Length.{tableBytes, lookupBytes, wideBytes, bytesBy, bytesOf, within, lengthOf, numbered}
+use Rattle.bytecode.specs.Rule.{LengthRule}
+use Rattle.bytecode.specs.declared.Measure.{Measure}
+use Rattle.bytecode.specs.declared.Measure.the-variants.{Length, NoLength}
+
+-- a length that is given is the rule's, and stays in the code
+pub record Given (code : List ℕ) (pc n : ℕ) : Type 0 where
+  pub bytes : n ≡ bytesOf code pc
+  pub inside : pc + n ≤ length code
+
+pub given : (code : List ℕ) (pc n : ℕ) → lengthOf code pc ≡ Length n → Given code pc n
+unfolding lengthOf within
+given code pc n e = by-test (leb (pc + bytesOf code pc) (length code)) refl e
+  where
+    by-test :
+        (t : Bool) → leb (pc + bytesOf code pc) (length code) ≡ t → pick t (Length (bytesOf code pc)) NoLength ≡ Length n →
+        Given code pc n
+    by-test true h q =
+        let same : n ≡ bytesOf code pc = cc in
+        record { bytes = same; inside = omega (arith, same, leb-true (pc + bytesOf code pc) (length code) h) }
+    by-test false h q = let z : _≡_ {A = ℕ} 0 1 = cc in absurd (omega arith)
+
+four-at-least : (iinc : Bool) → 4 ≤ pick iinc 6 4
+four-at-least true = omega arith
+four-at-least false = omega arith
+
+one-at-least : (f : Format) (code : List ℕ) (pc : ℕ) → 1 ≤ bytesBy f code pc
+unfolding tableBytes lookupBytes wideBytes
+one-at-least (fixed os) code pc = omega arith
+one-at-least tableswitch code pc = omega arith
+one-at-least lookupswitch code pc = omega arith
+one-at-least wide code pc = omega (arith, four-at-least (eqb (byteAt code (pc + 1)) 132))
+one-at-least reserved code pc = omega arith
+
+pub bytes-positive : (code : List ℕ) (pc : ℕ) → 1 ≤ bytesOf code pc
+unfolding bytesOf
+bytes-positive code pc = one-at-least (formatOf (byteAt code pc)) code pc
+
+-- a way to measure that is document 01's where it gives a length is a length rule
+pub rule-of :
+    (measure : List ℕ → ℕ → Measure) →
+    ((code : List ℕ) (pc n : ℕ) → measure code pc ≡ Length n → lengthOf code pc ≡ Length n) → LengthRule
+rule-of measure documented =
+    record {
+      measure = measure;
+      positive = λ code pc n e. omega (arith, bytes-positive code pc, given code pc n (documented code pc n e) .bytes);
+      inside = λ code pc n e. given code pc n (documented code pc n e) .inside;
+      documented = documented;
+    }
+
+-- document 01's own rule
+pub document-rule : LengthRule
+document-rule = rule-of lengthOf (λ code pc n e. e)
+
+-- measured implies in bounds: by any rule, each byte of an instruction that has a length lies in the code
+pub measured-in-bounds :
+    (rule : LengthRule) (code : List ℕ) (pc n : ℕ) → rule .measure code pc ≡ Length n →
+    (k : ℕ) → k < bytesOf code pc → pc + k < length code
+measured-in-bounds rule code pc n e k below =
+    omega (arith, given code pc n (rule .documented code pc n e) .bytes, rule .inside code pc n e)
+
+-- two answers with the same numbers are the same
+pub numbered-injective : (one another : Measure) → numbered one ≡ numbered another → one ≡ another
+unfolding numbered
+numbered-injective (Length m) (Length n) e = let same : m ≡ n = cc in rw same
+numbered-injective (Length m) NoLength e = let z : _≡_ {A = ℕ} 0 1 = cc in absurd (omega arith)
+numbered-injective NoLength (Length n) e = let z : _≡_ {A = ℕ} 0 1 = cc in absurd (omega arith)
+numbered-injective NoLength NoLength e = refl

@@ -1,0 +1,59 @@
+-- What the code's own proofs need of the length rule: the opcodes that a format fixes, and the answers at the code's end.
+-- Assumes nothing.
+use Prim.Native.Nat.{ℕ, _+_, _≤_, _<_}
+use native.Mathlib.Omega.{arith}
+use mathlib.Core.Path.{_≡_, refl}
+use mathlib.Core.Bool.{Bool, true}
+use mathlib.Core.List.{List}
+use lib.Dec.{T, eqb, eqb→eq}
+use lib.ListN.{length}
+use borrow.Author.Tests.{le-leb, lt-leb}
+use Rattle.basics.specs.Bytes.{byteAt}
+use Rattle.basics.proofs.Bytes.{byte-past}
+use Rattle.basics.proofs.Every.{every-at}
+use Rattle.jvms.specs.Format.{Format, fixed, tableswitch, lookupswitch, wide, reserved, formatOf}
+use Rattle.bytecode.specs.Length.{bytesBy, fixedBy, fixedLength, bytesOf, within, lengthOf}
+use Rattle.bytecode.specs.declared.Measure.the-variants.{Length, NoLength}
+
+-- an opcode whose format leaves its length open is one of three
+abbrev opens : Format → ℕ → Bool
+opens (fixed os) op = true
+opens tableswitch op = eqb op 170
+opens lookupswitch op = eqb op 171
+opens wide op = eqb op 196
+opens reserved op = true
+
+three-are-open : (op : ℕ) → op < 256 → T (opens (formatOf op) op)
+unfolding formatOf
+three-are-open op below = every-at (λ k. opens (formatOf k) k) 256 tt op below
+
+by-format :
+    (f : Format) (op : ℕ) (code : List ℕ) (pc : ℕ) →
+    T (opens f op) → (op ≡ 170 → ⊥) → (op ≡ 171 → ⊥) → (op ≡ 196 → ⊥) → fixedBy f ≡ bytesBy f code pc
+by-format (fixed os) op code pc t not-table not-lookup not-wide = refl
+by-format tableswitch op code pc t not-table not-lookup not-wide = absurd (not-table (eqb→eq op 170 t))
+by-format lookupswitch op code pc t not-table not-lookup not-wide = absurd (not-lookup (eqb→eq op 171 t))
+by-format wide op code pc t not-table not-lookup not-wide = absurd (not-wide (eqb→eq op 196 t))
+by-format reserved op code pc t not-table not-lookup not-wide = refl
+
+-- any other opcode fixes the length by itself
+pub opcode-fixes :
+    (code : List ℕ) (pc : ℕ) → byteAt code pc < 256 →
+    (byteAt code pc ≡ 170 → ⊥) → (byteAt code pc ≡ 171 → ⊥) → (byteAt code pc ≡ 196 → ⊥) →
+    fixedLength (byteAt code pc) ≡ bytesOf code pc
+unfolding fixedLength bytesOf
+opcode-fixes code pc below =
+    by-format (formatOf (byteAt code pc)) (byteAt code pc) code pc (three-are-open (byteAt code pc) below)
+
+pub fits : (code : List ℕ) (pc n : ℕ) → pc + n ≤ length code → Length n ≡ within code pc n
+unfolding within
+fits code pc n inside = simp (le-leb _ _ inside)
+
+pub passes : (code : List ℕ) (pc n : ℕ) → length code < pc + n → NoLength ≡ within code pc n
+unfolding within
+passes code pc n past = simp (lt-leb _ _ past)
+
+-- past the end there is no instruction
+pub none-past : (code : List ℕ) (pc : ℕ) → length code ≤ pc → NoLength ≡ lengthOf code pc
+unfolding lengthOf bytesOf formatOf
+none-past code pc past = rw (byte-past code pc past) (passes code pc 1 (omega arith))

@@ -1,0 +1,3 @@
+pub mod Length
+pub mod Rule
+pub mod Signed

@@ -1,0 +1,1 @@
+// What the Java Virtual Machine Specification says, and nothing else; there is no code here.
