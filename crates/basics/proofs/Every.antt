@@ -3,7 +3,8 @@
 use mathlib.Core.Path.{_≡_, refl, subst, sym}
 use mathlib.Core.Bool.{Bool, true, false}
 use mathlib.Core.Logic.{⊎-elim}
-use Prim.Native.Nat.{ℕ, zero, suc, _<_}
+use Prim.Native.Nat.{ℕ, zero, suc, _+_, _-_, _≤_, _<_}
+use native.Mathlib.Omega.{arith}
 use native.Mathlib.Nat.{not-suc-le-zero, le-of-suc-le-suc, eq-or-lt-of-le}
 use lib.Dec.{T}
 use Rattle.basics.specs.Choice.{both, alike}
@@ -34,3 +35,10 @@ every-at test (suc n) t k below =
     (λ (e : k ≡ n). subst (λ (m : ℕ). T (test m)) (sym e) (both-first (test n) (every test n) t))
     (λ (l : k < n). every-at test n (both-second (test n) (every test n) t) k l)
     (eq-or-lt-of-le (le-of-suc-le-suc below))
+
+-- the same of the n numbers from a on
+pub every-from :
+    (test : ℕ → Bool) (a n : ℕ) → T (every (λ k. test (a + k)) n) → (k : ℕ) → a ≤ k → k < a + n → T (test k)
+every-from test a n t k from below =
+    let same : a + (k - a) ≡ k = omega arith in
+    subst (λ (m : ℕ). T (test m)) same (every-at (λ j. test (a + j)) n t (k - a) (omega arith))

@@ -3,7 +3,7 @@
 use Prim.Native.Nat.{ℕ}
 use mathlib.Core.Bool.{Bool, true, false}
 use mathlib.Core.List.{List, [], _∷_}
-use lib.Dec.{eqb}
+use lib.Dec.{eqb, leb}
 
 -- the first of two where the test holds, else the second
 abbrev pub pick : {A : Type 0} → Bool → A → A → A
@@ -25,3 +25,7 @@ alike false false = true
 abbrev pub oneOf : List ℕ → ℕ → Bool
 oneOf [] n = false
 oneOf (x ∷ xs) n = pick (eqb n x) true (oneOf xs n)
+
+-- a number is from a to b
+abbrev pub between : ℕ → ℕ → ℕ → Bool
+between a b n = both (leb a n) (leb n b)

@@ -31,6 +31,11 @@ defaultAt pc = pc + 1 + padding pc
 abbrev pub signed32At : List ℕ → ℕ → ℤ
 signed32At code at = toZ w32 (u32At code at)
 
+-- the number itself, 0 where it is negative
+abbrev pub natural : ℤ → ℕ
+natural (pos n) = n
+natural (negsuc n) = 0
+
 -- tableswitch: high - low + 1
 abbrev pub span : List ℕ → ℕ → ℤ
 span code pc = signed32At code (defaultAt pc + 8) -ℤ signed32At code (defaultAt pc + 4) +ℤ pos 1

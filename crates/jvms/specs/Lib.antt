@@ -1,2 +1,3 @@
+pub mod Branch
 pub mod Extent
 pub mod Format

@@ -11,12 +11,12 @@ use Rattle.basics.specs.Bytes.{byteAt, AreBytes}
 use Rattle.basics.specs.Choice.{pick, oneOf}
 use Rattle.jvms.specs.Format.{Format, fixed, tableswitch, lookupswitch, wide, reserved, formatOf}
 use Rattle.jvms.specs.Extent.{Extent, takes, reservedOpcode, notWidened, lowAboveHigh, negativePairs}
-use Rattle.jvms.specs.Extent.{padding, defaultAt, signed32At, span, tableExtent, lookupExtent, widenedLocals, extentBy, extentAt}
+use Rattle.jvms.specs.Extent.{natural, padding, defaultAt, signed32At, span, tableExtent, lookupExtent, widenedLocals, extentBy, extentAt}
 use Rattle.bytecode.specs.Length.{operandsAt, tableEntries, lookupPairs, tableBytes, lookupBytes, wideBytes}
 use Rattle.bytecode.specs.Length.{bytesBy, bytesOf, within, lengthOf}
 use Rattle.bytecode.specs.Signed.{i32At}
 use Rattle.lengths.specs.Agreement.{counted, LengthsAgree, Counts}
-use Rattle.lengths.proofs.Signed.{signed-reading, natural, count-is, span-is}
+use Rattle.lengths.proofs.Signed.{signed-reading, count-is, span-is}
 
 -- JVMS's padding ends at the next multiple of 4
 pub padded : (pc : ℕ) → defaultAt pc ≡ operandsAt pc
@@ -38,7 +38,7 @@ wide-counted pc false true = refl
 wide-counted pc false false = refl
 
 module _ (code : List ℕ) (are : AreBytes code) (pc : ℕ) where
-  entries-agree : natural (span code pc) ≡ tableEntries code pc
+  pub entries-agree : natural (span code pc) ≡ tableEntries code pc
   unfolding tableEntries
   entries-agree =
       rw (padded pc)
@@ -46,7 +46,7 @@ module _ (code : List ℕ) (are : AreBytes code) (pc : ℕ) where
       (i32At code (operandsAt pc + 8)) (i32At code (operandsAt pc + 4))
       (signed-reading .of32 code are (operandsAt pc + 8)) (signed-reading .of32 code are (operandsAt pc + 4)))
 
-  pairs-agree : natural (signed32At code (defaultAt pc + 4)) ≡ lookupPairs code pc
+  pub pairs-agree : natural (signed32At code (defaultAt pc + 4)) ≡ lookupPairs code pc
   unfolding lookupPairs
   pairs-agree =
       rw (padded pc)

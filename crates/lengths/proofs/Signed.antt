@@ -14,6 +14,7 @@ use borrow.Author.Tests.{le-ltb, ltb-true, ltb-false}
 use Rattle.basics.specs.Bytes.{u16At, u32At, AreBytes}
 use Rattle.basics.specs.Choice.{pick}
 use Rattle.basics.proofs.Bytes.{u16-below, u32-below}
+use Rattle.jvms.specs.Extent.{natural}
 use Rattle.bytecode.specs.Signed.{lifted, i16At, i32At}
 use Rattle.lengths.specs.Agreement.{SignedReading}
 
@@ -51,11 +52,6 @@ moved-alike x y k =
     ∙ +ℤ-assoc x k (negℤ k +ℤ negℤ y)
     ∙ ap (λ (z : ℤ). x +ℤ z)
     (sym (+ℤ-assoc k (negℤ k) (negℤ y)) ∙ ap (λ (z : ℤ). z +ℤ negℤ y) (+ℤ-invr k) ∙ +ℤ-idl (negℤ y))
-
--- the number itself, and 0 where it is negative
-abbrev pub natural : ℤ → ℕ
-natural (pos n) = n
-natural (negsuc n) = 0
 
 natural-of-sub : (a b : ℕ) → natural (subℕ a b) ≡ a - b
 natural-of-sub a b = by-order (ltb a b) refl

@@ -3,10 +3,15 @@
 use mathlib.Core.Path.{refl}
 use Rattle.basics.specs.Bytes.{u16At, u32At}
 use Rattle.jvms.specs.Format.{formatOf}
-use Rattle.bytecode.specs.Signed.{lifted, i32At}
+use Rattle.bytecode.specs.Signed.{lifted, i16At, i32At}
 use Rattle.bytecode.specs.Length.{tableEntries, lookupPairs, tableBytes, lookupBytes, wideBytes, bytesOf, within, lengthOf}
+use Rattle.leader.specs.Greatest.{upTo, greatest}
+use Rattle.leader.specs.Scan.{scanFrom, instructions, scanCount, leadersOf, answered, blockLeader}
+use Rattle.leader.specs.Targets.{kindOf, target, entryTargets, switchTargets, leadersAt}
 use Rattle.rows.specs.Rows.{AllHold, rows}
 
 pub rows-hold : AllHold rows
-unfolding rows lengthOf within bytesOf formatOf wideBytes tableBytes tableEntries lookupBytes lookupPairs i32At lifted u32At u16At
-rows-hold = (refl, (refl, (refl, (refl, (refl, (refl, tt))))))
+unfolding rows
+    lengthOf within bytesOf formatOf wideBytes tableBytes tableEntries lookupBytes lookupPairs i16At i32At lifted u32At u16At
+    blockLeader answered instructions scanFrom scanCount leadersOf leadersAt kindOf target entryTargets switchTargets greatest upTo
+rows-hold = (refl, (refl, (refl, (refl, (refl, (refl, (refl, (refl, (refl, tt)))))))))

@@ -6,13 +6,19 @@ use mathlib.Core.List.{List, [], _∷_}
 use Rattle.bytecode.specs.Length.{lengthOf}
 use Rattle.bytecode.specs.declared.Measure.{Measure}
 use Rattle.bytecode.specs.declared.Measure.the-variants.{Length, NoLength}
+use Rattle.leader.specs.Scan.{blockLeader}
+use Rattle.leader.specs.declared.Scan.{Scan}
+use Rattle.leader.specs.declared.Scan.the-variants.{Leader}
 
 pub data Row : Type 0 where
   -- a code, an index of it, and what measuring there answers
   measures : List ℕ → ℕ → Measure → Row
+  -- a code, a fault, and what scanning answers
+  leads : List ℕ → ℕ → Scan → Row
 
 abbrev pub Holds : Row → Type 0
 Holds (measures code pc answer) = lengthOf code pc ≡ answer
+Holds (leads code fault answer) = blockLeader lengthOf [] code fault ≡ answer
 
 abbrev pub AllHold : List Row → Type 0
 AllHold [] = Unit
@@ -28,4 +34,9 @@ rows =
     measures (0xaa ∷ 0 ∷ 0 ∷ 0 ∷ 0 ∷ 0 ∷ 0 ∷ 0 ∷ 0 ∷ 0 ∷ 0 ∷ 0 ∷ 0 ∷ 0 ∷ 0 ∷ 1 ∷ 0 ∷ 0 ∷ 0 ∷ 0 ∷ 0 ∷ 0 ∷ 0 ∷ 0 ∷ []) 0 (Length 24) ∷
     measures (0 ∷ 0 ∷ 0 ∷ 0xaa ∷ 0 ∷ 0 ∷ 0 ∷ 0 ∷ 0 ∷ 0 ∷ 0 ∷ 0 ∷ 0 ∷ 0 ∷ 0 ∷ 1 ∷ 0 ∷ 0 ∷ 0 ∷ 0 ∷ 0 ∷ 0 ∷ 0 ∷ 0 ∷ []) 3 (Length 21) ∷
     measures (0xaa ∷ 0 ∷ 0 ∷ 0 ∷ 0 ∷ 0 ∷ 0 ∷ 0 ∷ 0 ∷ 0 ∷ 0 ∷ 1 ∷ 0 ∷ 0 ∷ 0 ∷ 0 ∷ []) 0 (Length 16) ∷
+    -- "code 00 00 2a be 57 a7 ff fd, fault 3: leader 2, scan 6, kind 2. With ff fe: leader 3, kind 1."
+    leads (0x00 ∷ 0x00 ∷ 0x2a ∷ 0xbe ∷ 0x57 ∷ 0xa7 ∷ 0xff ∷ 0xfd ∷ []) 3 (Leader 2 6) ∷
+    leads (0x00 ∷ 0x00 ∷ 0x2a ∷ 0xbe ∷ 0x57 ∷ 0xa7 ∷ 0xff ∷ 0xfe ∷ []) 3 (Leader 3 6) ∷
+    -- "code a7 ff ff b1, fault 3: leader 3."
+    leads (0xa7 ∷ 0xff ∷ 0xff ∷ 0xb1 ∷ []) 3 (Leader 3 2) ∷
     []

@@ -1,0 +1,4 @@
+pub mod Answer
+pub mod Greatest
+pub mod OfKind
+pub mod Scanning

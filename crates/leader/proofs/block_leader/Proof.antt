@@ -1,0 +1,108 @@
+-- `leader::block_leader` meets its contract. The loop's invariant: what the scan answers from here is what it answers from the start.
+-- Assumes nothing.
+use Prim.Native.Nat.{_-_, _≤_}
+use native.Mathlib.Omega.{arith}
+use mathlib.Core.List.{[]}
+use mathlib.Core.Path.{_≡_, _∙_}
+use lib.ListN.{length}
+use borrow.Author.Needs.{needs}
+use Rattle.bytecode.specs.Length.{lengthOf}
+use Rattle.bytecode.specs.declared.Measure.the-variants.{Length, NoLength}
+use Rattle.leader.specs.Scan.{scanFrom, blockLeader}
+use Rattle.bytecode.proofs.Laws.{Given, given, bytes-positive}
+use Rattle.leader.proofs.Scanning.{onward, at-first, one-turn, stops, ends}
+use Rattle.leader.proofs.block_leader.Statement.{statement}
+use Rattle.leader.proofs.block_leader.Tie as tie
+
+abbrev Inv-loop : tie.InvT-loop
+Inv-loop code fault pc₀ best₀ count₀ pc best count =
+    (onward code fault best count (scanFrom lengthOf code (length code - count) pc) ≡ blockLeader lengthOf [] code fault)
+    × (count ≤ pc) × (pc ≤ length code)
+
+abbrev μ-loop : tie.MeasureT-loop
+μ-loop code fault pc₀ best₀ count₀ pc best count = length code - pc
+
+loop-holds : tie.Need-loop-holds Inv-loop μ-loop
+loop-holds c = (at-first lengthOf (c .before .args .code .now) (c .before .args .fault), omega arith, omega arith)
+
+instruction-length-requires : tie.Need-instruction-length-requires Inv-loop μ-loop
+instruction-length-requires c κs = tt
+
+enum-known-bytes : tie.Need-enum-known-bytes Inv-loop μ-loop
+enum-known-bytes c = search needs
+
+enum-told : tie.Need-enum-told Inv-loop μ-loop
+enum-told c = search needs
+
+returns : tie.Need-returns Inv-loop μ-loop
+returns c =
+    let a = c .before .before .before .before .before .before .args in
+    let l = c .before .before .before .before .loop in
+    let e : lengthOf (a .code .now) (l .pc) ≡ NoLength = cc in
+    stops lengthOf (a .code .now) (a .fault) (l .best) (l .count) (l .pc) (omega arith) (c .before .before .before .loop-test .taken) e ∙ l .inv .0
+
+-- the instruction of a turn has a length
+measured :
+    (c : tie.After-known-told Inv-loop μ-loop) →
+    lengthOf (c .before .before .before .before .before .before .before .args .code .now) (c .before .before .before .before .before .loop .pc) ≡ Length (c .before .bytes .given .0 .0)
+measured c = cc
+
+size :
+    (c : tie.After-known-told Inv-loop μ-loop) →
+    Given (c .before .before .before .before .before .before .before .args .code .now) (c .before .before .before .before .before .loop .pc) (c .before .bytes .given .0 .0) × (1 ≤ c .before .bytes .given .0 .0)
+size c =
+    let code = c .before .before .before .before .before .before .before .args .code .now in
+    let is = given code (c .before .before .before .before .before .loop .pc) (c .before .bytes .given .0 .0) (measured c) in
+    (is, omega (arith, is .bytes, bytes-positive code (c .before .before .before .before .before .loop .pc)))
+
+add-leaders-at : tie.Need-add-leaders-at Inv-loop μ-loop
+add-leaders-at c = omega (arith, size c)
+
+leaders-at-requires : tie.Need-leaders-at-requires Inv-loop μ-loop
+leaders-at-requires c κs = omega (arith, size c)
+
+add-count : tie.Need-add-count Inv-loop μ-loop
+add-count c = omega arith
+
+add-pc : tie.Need-add-pc Inv-loop μ-loop
+add-pc c = omega (arith, size (c .before))
+
+loop-less : tie.Need-loop-less Inv-loop μ-loop
+loop-less c = omega (arith, size (c .before))
+
+loop-again : tie.Need-loop-again Inv-loop μ-loop
+loop-again c =
+    let a = c .before .before .before .before .before .before .before .before .args in
+    let l = c .before .before .before .before .before .before .loop in (
+      one-turn lengthOf (a .code .now) (a .fault) (l .best) (l .count) (l .pc) (omega arith) (c .before .before .before .before .before .loop-test .taken)
+          (c .before .before .bytes .given .0 .0) (c .leaders-at .result) (measured (c .before)) (c .leaders-at .ensures)
+          ∙ l .inv .0,
+      omega (arith, size (c .before)),
+      omega (arith, size (c .before)),
+    )
+
+returns-2 : tie.Need-returns-2 Inv-loop μ-loop
+returns-2 c =
+    let a = c .before .before .before .args in
+    let l = c .before .loop in
+    ends lengthOf (a .code .now) (a .fault) (l .best) (l .count) (l .pc) (length (a .code .now) - l .count) (c .loop-test .left)
+    ∙ l .inv .0
+
+pub block-leader-spec : {M : Type 1} → statement M
+block-leader-spec =
+    tie.close
+    (tie.spec
+    Inv-loop
+    μ-loop
+    loop-holds
+    instruction-length-requires
+    enum-known-bytes
+    enum-told
+    returns
+    add-leaders-at
+    leaders-at-requires
+    add-count
+    add-pc
+    loop-less
+    loop-again
+    returns-2)

@@ -1,0 +1,68 @@
+-- `leader::kind_of` meets its contract. Each arm and each gap between arms is one computed test.
+-- Assumes nothing.
+use native.Mathlib.Omega.{arith}
+use Rattle.leader.specs.Targets.{kindOf}
+use Rattle.leader.specs.declared.Kind.the-variants.{Near, Far, Ends, Plain}
+use Rattle.leader.proofs.OfKind.{all-of-kind, all-but}
+use Rattle.leader.proofs.kind_of.Statement.{statement}
+use Rattle.leader.proofs.kind_of.Tie as tie
+
+returns : tie.Need-returns
+unfolding kindOf
+returns c = rw (c .match .keys1)
+
+returns-2 : tie.Need-returns-2
+unfolding kindOf
+returns-2 c = rw (c .match .keys2)
+
+returns-3 : tie.Need-returns-3
+unfolding kindOf
+returns-3 c = rw (c .match .keys3)
+
+returns-4 : tie.Need-returns-4
+unfolding kindOf
+returns-4 c = rw (c .match .keys4)
+
+returns-5 : tie.Need-returns-5
+unfolding kindOf
+returns-5 c = all-of-kind Near 153 16 tt (c .before .before .before .args .op) (omega arith) (omega arith)
+
+returns-6 : tie.Need-returns-6
+unfolding kindOf
+returns-6 c = all-of-kind Ends 172 6 tt (c .before .before .before .before .args .op) (omega arith) (omega arith)
+
+returns-7 : tie.Need-returns-7
+unfolding kindOf
+returns-7 c = all-of-kind Near 198 2 tt (c .before .before .before .before .before .before .args .op) (omega arith) (omega arith)
+
+returns-8 : tie.Need-returns-8
+unfolding kindOf
+returns-8 c = all-of-kind Far 200 2 tt (c .before .before .before .before .before .before .before .args .op) (omega arith) (omega arith)
+
+returns-9 : tie.Need-returns-9
+unfolding kindOf
+returns-9 c = all-of-kind Plain 0 153 tt (c .before .before .args .op) (omega arith) (omega arith)
+
+returns-10 : tie.Need-returns-10
+unfolding kindOf
+returns-10 c = all-but Plain 191 178 20 tt (c .before .before .before .before .before .args .op) (omega arith) (omega arith) (omega arith)
+
+returns-11 : tie.Need-returns-11
+unfolding kindOf
+returns-11 c = all-of-kind Plain 202 54 tt (c .before .before .before .before .before .before .before .args .op) (omega arith) (omega arith)
+
+pub kind-of-spec : {M : Type 1} → statement M
+kind-of-spec =
+    tie.close
+    (tie.spec
+    returns
+    returns-2
+    returns-3
+    returns-4
+    returns-5
+    returns-6
+    returns-7
+    returns-8
+    returns-9
+    returns-10
+    returns-11)

@@ -1,0 +1,3 @@
+pub mod Greatest
+pub mod Scan
+pub mod Targets

@@ -1,0 +1,3 @@
+pub mod Declared
+pub mod Landings
+pub mod Most

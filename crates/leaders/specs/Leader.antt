@@ -1,0 +1,80 @@
+-- Leaders, declared (document 01, "Leaders"), over any length rule and any list of extra leaders: what an instruction is that
+-- the scan reaches, what a leader is, which one is wanted, and what an answer of the scan means. Which opcodes branch, and
+-- where they land, is JVMS's. The statements at the end are proved in proofs/ of this crate.
+-- Assumes nothing.
+use Prim.Native.Nat.{ℕ, suc, _+_, _≤_, _<_}
+use mathlib.Core.Path.{_≡_}
+use mathlib.Core.List.{List}
+use lib.Dec.{T}
+use lib.ListN.{length}
+use Rattle.basics.specs.Bytes.{byteAt, AreBytes}
+use Rattle.basics.specs.Member.{_∈_}
+use Rattle.jvms.specs.Branch.{landingsAt, endsBlock}
+use Rattle.bytecode.specs.Rule.{LengthRule}
+use Rattle.bytecode.specs.declared.Measure.the-variants.{Length, NoLength}
+use Rattle.leader.specs.Scan.{blockLeader}
+use Rattle.leader.specs.Targets.{targetsAt}
+use Rattle.leader.specs.declared.Scan.{Scan}
+use Rattle.leader.specs.declared.Scan.the-variants.{Leader, Unmeasured}
+
+-- measuring so many instructions from 0 on arrives at an index
+pub data Arrived (rule : LengthRule) (code : List ℕ) : ℕ → ℕ → Type 0 where
+  start : Arrived rule code 0 0
+  next :
+      {count pc n : ℕ} →
+      Arrived rule code count pc → pc < length code → rule .measure code pc ≡ Length n → Arrived rule code (suc count) (pc + n)
+
+-- an instruction starts at this index of the code
+pub record Reached (rule : LengthRule) (code : List ℕ) (pc : ℕ) : Type 0 where
+  pub count : ℕ
+  pub arrived : Arrived rule code count pc
+  pub inside : pc < length code
+
+-- "0; each target of [a branch] and of each switch entry and default; the index after each of those, and after [ret, the
+-- returns, athrow]", and the extra ones
+pub data IsLeader (rule : LengthRule) (extra code : List ℕ) : ℕ → Type 0 where
+  zeroth : IsLeader rule extra code 0
+  target : {pc x : ℕ} → Reached rule code pc → x ∈ landingsAt code pc → IsLeader rule extra code x
+  after :
+      {pc n : ℕ} →
+      Reached rule code pc → rule .measure code pc ≡ Length n → T (endsBlock (byteAt code pc)) → IsLeader rule extra code (pc + n)
+  added : {x : ℕ} → x ∈ extra → IsLeader rule extra code x
+
+-- "The wanted one is the greatest at or below the fault."
+pub record Wanted (rule : LengthRule) (extra code : List ℕ) (fault leader : ℕ) : Type 0 where
+  pub isLeader : IsLeader rule extra code leader
+  pub atOrBelow : leader ≤ fault
+  pub greatest : (x : ℕ) → IsLeader rule extra code x → x ≤ fault → x ≤ leader
+
+-- the code is measured to its end, in so many instructions
+abbrev pub MeasuredToEnd : LengthRule → List ℕ → ℕ → Type 0
+MeasuredToEnd rule code count = Arrived rule code count (length code)
+
+-- what an answer of the scan means. The count is that of the instructions reached and measured.
+abbrev pub Means : LengthRule → List ℕ → List ℕ → ℕ → Scan → Type 0
+Means rule extra code fault (Leader leader count) = MeasuredToEnd rule code count × Wanted rule extra code fault leader
+Means rule extra code fault (Unmeasured pc count) =
+    Arrived rule code count pc × (pc < length code) × (rule .measure code pc ≡ NoLength)
+
+-- ---- the statements
+
+-- The scan's answer means what it says, and no other answer does. So no leader is answered exactly when some instruction that
+-- is reached has no length.
+pub record LeaderDeclared : Type 0 where
+  pub means :
+      (rule : LengthRule) (extra code : List ℕ) → AreBytes code → (fault : ℕ) →
+      Means rule extra code fault (blockLeader (rule .measure) extra code fault)
+  pub only :
+      (rule : LengthRule) (extra code : List ℕ) → AreBytes code → (fault : ℕ) (answer : Scan) →
+      Means rule extra code fault answer → answer ≡ blockLeader (rule .measure) extra code fault
+
+-- condition 3, last clause: no scanned branch or switch lands after the leader and at or before the fault
+abbrev pub NothingLandsBetween : Type 0
+NothingLandsBetween =
+    (rule : LengthRule) (extra code : List ℕ) → AreBytes code → (fault leader count : ℕ) → fault < length code →
+    blockLeader (rule .measure) extra code fault ≡ Leader leader count →
+    (pc x : ℕ) → Reached rule code pc → x ∈ landingsAt code pc → leader < x → x ≤ fault → ⊥
+
+-- the targets that document 01 gives an instruction are the indexes where JVMS lands it
+abbrev pub TargetsAgree : Type 0
+TargetsAgree = (code : List ℕ) → AreBytes code → (pc : ℕ) → targetsAt code pc ≡ landingsAt code pc
