@@ -1,3 +1,4 @@
 pub mod Branch
+pub mod Descriptor
 pub mod Extent
 pub mod Format
