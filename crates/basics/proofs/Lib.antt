@@ -1,4 +1,5 @@
 pub mod Bytes
 pub mod Every
 pub mod Outcome
+pub mod Same
 pub mod Table

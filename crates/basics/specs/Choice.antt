@@ -29,3 +29,10 @@ oneOf (x ∷ xs) n = pick (eqb n x) true (oneOf xs n)
 -- a number is from a to b
 abbrev pub between : ℕ → ℕ → ℕ → Bool
 between a b n = both (leb a n) (leb n b)
+
+-- two lists are the same
+abbrev pub sameList : List ℕ → List ℕ → Bool
+sameList [] [] = true
+sameList [] (y ∷ ys) = false
+sameList (x ∷ xs) [] = false
+sameList (x ∷ xs) (y ∷ ys) = both (eqb x y) (sameList xs ys)

@@ -1,0 +1,5 @@
+pub mod Bounds
+pub mod Listing
+pub mod OneType
+pub mod Steps
+pub mod Turns

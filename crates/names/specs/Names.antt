@@ -1,0 +1,84 @@
+-- Names as the messages print them (document 01, "Action and cause").
+-- Assumes nothing.
+use Prim.Native.Nat.{ℕ, zero, suc, _-_}
+use mathlib.Core.Bool.{Bool}
+use mathlib.Core.List.{List, [], _∷_, _++_}
+use lib.Dec.{eqb}
+use lib.ListN.{take, drop, getD}
+use Rattle.basics.specs.Ascii.{ascii}
+use Rattle.basics.specs.Bytes.{byteAt}
+use Rattle.basics.specs.Choice.{pick, sameList}
+use Rattle.descriptor.specs.Search.{firstFrom}
+use Rattle.descriptor.specs.Types.{Types, over, unread, one, typesOf}
+use Rattle.descriptor.specs.declared.FieldType.{FieldType}
+use Rattle.descriptor.specs.declared.Found.{Found}
+use Rattle.descriptor.specs.declared.Found.the-variants.{At, Absent}
+
+-- ---- classes: "`java/lang/String` and `java/lang/Object` shorten, names starting with `[` stay, others get dots for slashes"
+
+unfoldable pub dotOf : ℕ → ℕ
+dotOf byte = pick (eqb byte 47) 46 byte
+
+unfoldable pub dotted : List ℕ → List ℕ
+dotted [] = []
+dotted (x ∷ xs) = dotOf x ∷ dotted xs
+
+abbrev pub startsWith : ℕ → List ℕ → Bool
+startsWith byte name = eqb (byteAt name 0) byte
+
+unfoldable pub className : List ℕ → List ℕ
+className name =
+    pick (sameList name (ascii "java/lang/String")) (ascii "String")
+    (pick (sameList name (ascii "java/lang/Object")) (ascii "Object")
+    (pick (startsWith 91 name) name (dotted name)))
+
+-- ---- types
+
+-- in the order of their letters B C D F I J S Z
+unfoldable pub baseNames : List (List ℕ)
+baseNames =
+    ascii "byte" ∷ ascii "char" ∷ ascii "double" ∷ ascii "float" ∷ ascii "int" ∷ ascii "long" ∷ ascii "short" ∷ ascii "boolean" ∷ []
+
+abbrev pub nameAt : Found → List ℕ
+nameAt (At k) = getD baseNames k []
+nameAt Absent = []
+
+unfoldable pub baseName : ℕ → List ℕ
+baseName letter = nameAt (firstFrom letter (ascii "BCDFIJSZ") 0)
+
+-- a base type or a class, whose name is a part of the descriptor
+unfoldable pub elementName : List ℕ → FieldType → List ℕ
+elementName text t =
+    pick (eqb (t .letter) 76) (className (take (t .to - t .from) (drop (t .from) text))) (baseName (t .letter))
+
+-- "An array type adds `[]` per dimension."
+unfoldable pub bracketPairs : ℕ → List ℕ
+bracketPairs zero = []
+bracketPairs (suc n) = 91 ∷ 93 ∷ bracketPairs n
+
+unfoldable pub typeName : List ℕ → FieldType → List ℕ
+typeName text t = elementName text t ++ bracketPairs (t .dims)
+
+-- ---- parameter lists: "(P, P)"
+
+unfoldable pub typeNames : List ℕ → Types → List (List ℕ)
+typeNames text (over end) = []
+typeNames text (unread at) = []
+typeNames text (one t rest) = typeName text t ∷ typeNames text rest
+
+-- each name behind a comma
+unfoldable pub commaed : List (List ℕ) → List ℕ
+commaed [] = []
+commaed (name ∷ names) = ascii ", " ++ (name ++ commaed names)
+
+unfoldable pub joined : List (List ℕ) → List ℕ
+joined [] = []
+joined (name ∷ names) = name ++ commaed names
+
+-- the comma before the parameter at an index of its descriptor: the first stands at 1
+abbrev pub commaBefore : ℕ → List ℕ
+commaBefore index = pick (eqb index 1) [] (ascii ", ")
+
+-- the names of a descriptor's parameters
+unfoldable pub parameterNames : List ℕ → List ℕ
+parameterNames text = joined (typeNames text (typesOf text))

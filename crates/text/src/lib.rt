@@ -1,0 +1,90 @@
+// Writing into what remains of a lent output. A text that is longer than the output is written as far as it reaches, and the
+// place after it is answered all the same. So nothing is asked of a caller, and a text is measured by writing it from the
+// output's end on.
+ghost use mathlib.Core.Path.{_≡_};
+ghost use Prim.Native.Nat.{_+_, min, _≤_};
+ghost use lib.ListN.{length, drop};
+ghost use Rattle.text.specs.Decimal.{decimal};
+ghost use Rattle.text.specs.Writing.{most, Written};
+
+// The smaller of two numbers.
+pub fn shorter(a: usize, b: usize) -> usize
+    ensures { λ r. ⌜ r ≡ min a b ⌝ }
+{
+    if a <= b { a } else { b }
+}
+
+// The sum of two numbers, or the greatest number where they pass it.
+pub fn sum(a: usize, b: usize) -> usize
+    ensures { λ r. ⌜ r ≡ min (a + b) most ⌝ }
+{
+    let room = 0xffff_ffff_ffff_ffff - a;
+    if b <= room {
+        a + b
+    } else {
+        0xffff_ffff_ffff_ffff
+    }
+}
+
+// Writes a part over the start of the output. Answers its length.
+pub fn put(out: &mut [u8], part: &[u8]) -> usize
+    ensures { λ r. ⌜ Written 0 (now (part .entry)) (now (out .entry)) r (now (out .exit)) ⌝ }
+{
+    let room = shorter(part.len(), out.len());
+    let mut i = 0;
+    while i < room {
+        out[i] = part[i];
+        i += 1;
+    }
+    part.len()
+}
+
+// Writes a part into the output from a place on. Answers the place after it.
+pub fn put_at(out: &mut [u8], at: usize, part: &[u8]) -> usize
+    ensures { λ r. ⌜ Written at (now (part .entry)) (now (out .entry)) r (now (out .exit)) ⌝ }
+{
+    let from = shorter(at, out.len());
+    let n = put(&mut out[from..], part);
+    sum(at, n)
+}
+
+// The digits of a number, at the end of twenty bytes.
+struct Composed {
+    bytes: [u8; 20],
+    at: usize,
+}
+
+fn compose(n: usize) -> Composed
+    ensures { λ r. ⌜ (drop (r .at) (r .bytes) ≡ decimal n) × (r .at ≤ 20) × (length (r .bytes) ≡ 20) ⌝ }
+{
+    let mut bytes = [0u8; 20];
+    let mut at: usize = 20;
+    let mut left = n;
+    while 10 <= left {
+        at -= 1;
+        bytes[at] = (48 + left % 10) as u8;
+        left /= 10;
+    }
+    at -= 1;
+    bytes[at] = (48 + left) as u8;
+    Composed { bytes, at }
+}
+
+// Writes a number in decimal over the start of the output. The digits are composed aside and copied.
+pub fn put_decimal(out: &mut [u8], n: usize) -> usize
+    ensures { λ r. ⌜ Written 0 (decimal n) (now (out .entry)) r (now (out .exit)) ⌝ }
+{
+    let composed = compose(n);
+    let bytes = composed.bytes;
+    let at = composed.at;
+    put(out, &bytes[at..])
+}
+
+// The same from a place on. Answers the place after it.
+pub fn put_decimal_at(out: &mut [u8], at: usize, n: usize) -> usize
+    ensures { λ r. ⌜ Written at (decimal n) (now (out .entry)) r (now (out .exit)) ⌝ }
+{
+    let from = shorter(at, out.len());
+    let digits = put_decimal(&mut out[from..], n);
+    sum(at, digits)
+}
