@@ -102,7 +102,7 @@ first-byte (base b) x r s e p q o = let head : x ≡ letter b = cc in p (ap sort
 first-byte (class n) x r s e p q o = let head : x ≡ 76 = cc in q (ap sort head)
 first-byte (array t) x r s e p q o = let head : x ≡ 91 = cc in o (ap sort head)
 
-not-closing : (t : FieldType) (r s : List ℕ) → render t ++ r ≡ 41 ∷ s → ⊥
+pub not-closing : (t : FieldType) (r s : List ℕ) → render t ++ r ≡ 41 ∷ s → ⊥
 not-closing t r s e = first-byte t 41 r s e (λ z. omega (arith, z)) (λ z. omega (arith, z)) (λ z. omega (arith, z))
 
 not-void : (t : FieldType) (r s : List ℕ) → render t ++ r ≡ 86 ∷ s → ⊥

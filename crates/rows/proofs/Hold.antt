@@ -8,10 +8,16 @@ use Rattle.bytecode.specs.Length.{tableEntries, lookupPairs, tableBytes, lookup
 use Rattle.leader.specs.Greatest.{upTo, greatest}
 use Rattle.leader.specs.Scan.{scanFrom, instructions, scanCount, leadersOf, answered, blockLeader}
 use Rattle.leader.specs.Targets.{kindOf, target, entryTargets, switchTargets, leadersAt}
+use Rattle.descriptor.specs.Readers.{slotsOf, judged, parameters, closing, slotsBehind, returnSlots}
+use Rattle.descriptor.specs.Search.{firstIn, firstFrom}
+use Rattle.descriptor.specs.Types.{brackets, typeBehind, fieldTypeAt, typeSlots, typesFrom, typesAt, typesOf}
+use Rattle.names.specs.Names.{dotOf, dotted, className, baseNames, baseName, elementName, bracketPairs, typeName, typeNames, commaed, joined, parameterNames}
 use Rattle.rows.specs.Rows.{AllHold, rows}
 
 pub rows-hold : AllHold rows
 unfolding rows
     lengthOf within bytesOf formatOf wideBytes tableBytes tableEntries lookupBytes lookupPairs i16At i32At lifted u32At u16At
     blockLeader answered instructions scanFrom scanCount leadersOf leadersAt kindOf target entryTargets switchTargets greatest upTo
-rows-hold = (refl, (refl, (refl, (refl, (refl, (refl, (refl, (refl, (refl, tt)))))))))
+    parameters judged slotsOf typesOf typesAt typesFrom fieldTypeAt typeBehind brackets firstFrom firstIn typeSlots returnSlots closing slotsBehind
+    parameterNames joined commaed typeNames typeName elementName baseName baseNames bracketPairs className dotted dotOf
+rows-hold = (refl, (refl, (refl, (refl, (refl, (refl, (refl, (refl, (refl, ((refl, refl), (refl, (refl, tt))))))))))))

@@ -6,19 +6,32 @@ use mathlib.Core.List.{List, [], _∷_}
 use Rattle.bytecode.specs.Length.{lengthOf}
 use Rattle.bytecode.specs.declared.Measure.{Measure}
 use Rattle.bytecode.specs.declared.Measure.the-variants.{Length, NoLength}
+use Rattle.basics.specs.Ascii.{ascii}
+use Rattle.descriptor.specs.Readers.{parameters, returnSlots}
+use Rattle.descriptor.specs.declared.Params.{Params}
+use Rattle.descriptor.specs.declared.Params.the-variants.{Read}
+use Rattle.descriptor.specs.declared.Slots.{Slots}
+use Rattle.descriptor.specs.declared.Slots.the-variants.{Slots as SlotsOf}
 use Rattle.leader.specs.Scan.{blockLeader}
 use Rattle.leader.specs.declared.Scan.{Scan}
 use Rattle.leader.specs.declared.Scan.the-variants.{Leader}
+use Rattle.names.specs.Names.{parameterNames}
 
 pub data Row : Type 0 where
   -- a code, an index of it, and what measuring there answers
   measures : List ℕ → ℕ → Measure → Row
   -- a code, a fault, and what scanning answers
   leads : List ℕ → ℕ → Scan → Row
+  -- a descriptor, and what its parameters are: read, and by name
+  takes : List ℕ → Params → List ℕ → Row
+  -- a descriptor, and the slots of its return
+  returns : List ℕ → Slots → Row
 
 abbrev pub Holds : Row → Type 0
 Holds (measures code pc answer) = lengthOf code pc ≡ answer
 Holds (leads code fault answer) = blockLeader lengthOf [] code fault ≡ answer
+Holds (takes text read names) = (parameters text ≡ read) × (parameterNames text ≡ names)
+Holds (returns text slots) = returnSlots text ≡ slots
 
 abbrev pub AllHold : List Row → Type 0
 AllHold [] = Unit
@@ -39,4 +52,8 @@ rows =
     leads (0x00 ∷ 0x00 ∷ 0x2a ∷ 0xbe ∷ 0x57 ∷ 0xa7 ∷ 0xff ∷ 0xfe ∷ []) 3 (Leader 3 6) ∷
     -- "code a7 ff ff b1, fault 3: leader 3."
     leads (0xa7 ∷ 0xff ∷ 0xff ∷ 0xb1 ∷ []) 3 (Leader 3 2) ∷
+    -- "`(IJ[D)V`: int, long, double[], 4 slots, return 0. `(La)J;)V`: return 2."
+    takes (ascii "(IJ[D)V") (Read 4 5) (ascii "int, long, double[]") ∷
+    returns (ascii "(IJ[D)V") (SlotsOf 0) ∷
+    returns (ascii "(La)J;)V") (SlotsOf 2) ∷
     []
