@@ -26,7 +26,7 @@ use Rattle.jvms.specs.Descriptor.{BaseType, byte, char, double, float, int, lon
 use Rattle.jvms.specs.Descriptor.{base, class, array, render, renderAll, renderReturn, renderMethod, dimensions, NoSemicolon, ClassName, Named, AllWellFormed}
 use Rattle.jvms.specs.Descriptor.{ReturnType, void, typed, MethodType, WellFormed, WellFormedMethod, slots, slotsAll}
 use Rattle.jvms.specs.Descriptor.{FieldType as Tree, returnSlots as treeReturnSlots}
-use Rattle.jvms.proofs.Rendering.{not-closing}
+use Rattle.jvms.proofs.Rendering.{not-closing, spelled}
 use Rattle.descriptor.proofs.Listing.{list-closed, list-one}
 use Rattle.descriptors.specs.Lenient.{Told, told, Listed, none, more, letterOf, nameOf, treeTold, treesTold, occurs, closingAt, LenientAgrees}
 
@@ -95,10 +95,6 @@ semicolon [] rest at free = ap At (omega arith)
 semicolon (x ∷ name) rest at free =
     let on : at + 1 + length name ≡ at + suc (length name) = omega arith in
     rw (ne-eqb x 59 (free .0)) (semicolon name rest (at + 1) (free .1) ∙ ap At on)
-
-spelled : (name : List ℕ) → ClassName name → NoSemicolon name
-spelled [] is = absurd is
-spelled (x ∷ name) is = is
 
 -- ---- one type
 

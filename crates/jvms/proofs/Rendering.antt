@@ -58,7 +58,8 @@ name-ends (x ∷ n) (y ∷ m) r s p q e =
     let rest = name-ends n m r s (p .1) (q .1) tail in
     (rw (head, rest .0), rest .1)
 
-spelled : (n : List ℕ) → ClassName n → NoSemicolon n
+-- a class name holds no semicolon
+pub spelled : (n : List ℕ) → ClassName n → NoSemicolon n
 spelled [] p = absurd p
 spelled (x ∷ n) p = p
 
