@@ -1,0 +1,4 @@
+pub mod FirstWrong
+pub mod LaidOut
+pub mod Lookup
+pub mod Standing
