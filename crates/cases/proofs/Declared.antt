@@ -131,7 +131,7 @@ module _ (bytes : List ℕ) (are : AreBytes bytes) where
 -- ---- the reader of the whole case is a run of the layout
 
 -- members and what follows them
-members-then :
+pub members-then :
     (count last : ℕ) (following : Layout) (bytes : List ℕ) (at : ℕ) →
     runBy (membersThen count last following) bytes at
     ≡ thenRun (runBy (membersThen count last ended) bytes at) (λ wrong. Wrong wrong) (λ end. runBy following bytes end)
@@ -159,7 +159,7 @@ members-then (suc count) last following bytes at =
     of (member.Wrong place) rest = refl
 
 -- records and what follows them
-records-then :
+pub records-then :
     (count : ℕ) (following : Layout) (bytes : List ℕ) (at : ℕ) →
     runBy (recordsThen count following) bytes at
     ≡ thenRun (runBy (recordsThen count ended) bytes at) (λ wrong. Wrong wrong) (λ end. runBy following bytes end)
@@ -186,13 +186,13 @@ records-then (suc count) following bytes at =
     of (local.Wrong place) rest = refl
 
 -- whether there is a wrong item, and where; a run is never too long
-data Verdict : Type 0 where
+pub data Verdict : Type 0 where
   allRight : Verdict
   notRead : Verdict
   wrongAt : ℕ → Verdict
 
 -- the verdict on a run that ends, where bytes may be in excess
-abbrev onRun : List ℕ → Run → Verdict
+abbrev pub onRun : List ℕ → Run → Verdict
 onRun bytes (End end) = pick (ltb end (length bytes)) (wrongAt end) allRight
 onRun bytes (Wrong offset) = wrongAt offset
 
@@ -200,7 +200,7 @@ abbrev onTables : Tables → Verdict
 onTables (tables.Read places) = allRight
 onTables (tables.Wrong offset) = wrongAt offset
 
-abbrev onCase : Case → Verdict
+abbrev pub onCase : Case → Verdict
 onCase (answer.Parts places) = allRight
 onCase (answer.Wrong offset) = wrongAt offset
 onCase answer.TooLong = notRead
@@ -252,7 +252,7 @@ module _ (bytes : List ℕ) where
   abbrev CaseRun : Type 0
   CaseRun = onCase (placesIn bytes) ≡ onRun bytes (runBy caseLayout bytes 0)
 
-  case-run : CaseRun
+  pub case-run : CaseRun
   unfolding placesIn caseLayout runBy
   case-run = by-flags (numberAt greatest bytes 0) refl
     where
@@ -294,7 +294,7 @@ module _ (bytes : List ℕ) where
 -- ---- the statement
 
 module _ (bytes : List ℕ) where
-  fits-of : (c : Case) → (c ≡ answer.TooLong → ⊥) → caseOf bytes ≡ c → (length bytes ≤ longest) × (placesIn bytes ≡ c)
+  pub fits-of : (c : Case) → (c ≡ answer.TooLong → ⊥) → caseOf bytes ≡ c → (length bytes ≤ longest) × (placesIn bytes ≡ c)
   unfolding caseOf
   fits-of c not e = by-test (ltb longest (length bytes)) refl e
     where
@@ -304,7 +304,7 @@ module _ (bytes : List ℕ) where
       by-test true f q = absurd (not (sym q))
       by-test false f q = (ltb-false longest (length bytes) f, q)
 
-  of-short : length bytes ≤ longest → caseOf bytes ≡ placesIn bytes
+  pub of-short : length bytes ≤ longest → caseOf bytes ≡ placesIn bytes
   unfolding caseOf
   of-short short = rw (le-ltb longest (length bytes) short)
 

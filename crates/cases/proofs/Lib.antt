@@ -1,2 +1,5 @@
-pub mod Reading
 pub mod Declared
+pub mod Found
+pub mod Items
+pub mod Laying
+pub mod Reading
