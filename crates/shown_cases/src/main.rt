@@ -3,6 +3,7 @@
 use casefile::Case;
 use casefile::LocalRecord;
 use casefile::Number;
+use casefile::Places;
 use libc::STDOUT_FILENO;
 
 fn say(text: &[u8]) {
@@ -22,24 +23,29 @@ fn say_part(before: &[u8], part: &[u8]) {
     say(b"]");
 }
 
+// A place and a length.
+fn say_place(before: &[u8], start: usize, length: usize) {
+    say_number(before, start);
+    say_number(b"+", length);
+}
+
+// Where the parts of a case lie.
+fn say_parts(p: Places) {
+    say_number(b": 0, flags ", p.flags);
+    say_number(b", fault ", p.fault);
+    say_place(b", code ", p.code, p.code_length);
+    say_place(b", signature ", p.signature, p.signature_length);
+    say_place(b", members ", p.members, p.members_length);
+    say_number(b" of ", p.member_count);
+    say_place(b", records ", p.records, p.records_length);
+    say_number(b" of ", p.record_count);
+}
+
 // Document 01's number for the answer, with what it carries; 0 where the case is read, with the places of its parts.
 fn show(what: &[u8], bytes: &[u8]) {
     say(what);
     match casefile::read_case(bytes) {
-        Case::Parts(p) => {
-            say_number(b": 0, flags ", p.flags);
-            say_number(b", fault ", p.fault);
-            say_number(b", code ", p.code);
-            say_number(b"+", p.code_length);
-            say_number(b", signature ", p.signature);
-            say_number(b"+", p.signature_length);
-            say_number(b", members ", p.members);
-            say_number(b"+", p.members_length);
-            say_number(b" of ", p.member_count);
-            say_number(b", records ", p.records);
-            say_number(b"+", p.records_length);
-            say_number(b" of ", p.record_count);
-        }
+        Case::Parts(p) => say_parts(p),
         Case::Wrong(offset) => say_number(b": 2 at ", offset),
         Case::TooLong => say(b": 5"),
     }
@@ -78,8 +84,7 @@ fn show_record(what: &[u8], records: &[u8], at: usize) {
             say_number(b": ", r.start);
             say_number(b" ", r.length);
             say_number(b" ", r.slot);
-            say_number(b", name ", r.name);
-            say_number(b"+", r.name_length);
+            say_place(b", name ", r.name, r.name_length);
             say_number(b", next ", r.next);
         }
         LocalRecord::Wrong(offset) => say_number(b": wrong at ", offset),
@@ -134,6 +139,9 @@ fn show_wrong_flags() {
     show(b"flags 65,535", b"\xff\xff\x03\x00\x00\x00\x00\x00");
     show(b"flags 65,536", b"\x80\x80\x04\x00\x00\x00\x00\x00");
     show(b"flags in four bytes", b"\x80\x80\x80\x01\x00\x00\x00\x00");
+}
+
+fn show_wrong_faults() {
     show(b"fault missing", b"\x00");
     show(
         b"fault not in the fewest bytes",
@@ -146,6 +154,9 @@ fn show_wrong_texts() {
     show(b"code cut", b"\x00\x00\x02\x2a");
     show(b"code length cut", b"\x00\x00\x80");
     show(b"signature cut", b"\x00\x00\x00\x01");
+}
+
+fn show_wrong_counts() {
     show(b"member count missing", b"\x00\x00\x00\x00");
     show(b"record count missing", b"\x00\x00\x00\x00\x00");
     show(b"nothing in it", b"\x00\x00\x00\x00\x00\x00");
@@ -158,12 +169,18 @@ fn show_wrong_members() {
         b"pool index 0",
         b"\x00\x00\x00\x00\x01\x00\x00\x00\x00\x00\x00",
     );
+}
+
+fn show_wrong_kinds() {
     show(b"kind missing", b"\x00\x00\x00\x00\x01\x07");
     show(b"kind 2", b"\x00\x00\x00\x00\x01\x07\x02\x00\x00\x00\x00");
     show(
         b"kind 128",
         b"\x00\x00\x00\x00\x01\x07\x80\x01\x00\x00\x00\x00",
     );
+}
+
+fn show_wrong_member_texts() {
     show(b"class cut", b"\x00\x00\x00\x00\x01\x07\x01\x05C");
     show(b"name missing", b"\x00\x00\x00\x00\x01\x07\x01\x01C");
     show(
@@ -195,6 +212,9 @@ fn show_wrong_records() {
         b"record name cut",
         b"\x00\x00\x00\x00\x00\x01\x02\x01\x00\x02x",
     );
+}
+
+fn show_excess() {
     show(b"one record", b"\x00\x00\x00\x00\x00\x01\x02\x01\x00\x01x");
     show(
         b"excess behind a record",
@@ -212,6 +232,9 @@ fn show_numbers() {
     show_number(b"127", b"\x7f", 65535);
     show_number(b"128", b"\x80\x01", 65535);
     show_number(b"16,384", b"\x80\x80\x01", 65535);
+}
+
+fn show_limits() {
     show_number(b"1,048,576 of 65,535", b"\x80\x80\x40", 65535);
     show_number(b"1,048,576 of 1,048,576", b"\x80\x80\x40", 1048576);
     show_number(b"1,048,577 of 1,048,576", b"\x81\x80\x40", 1048576);
@@ -260,12 +283,18 @@ fn main() {
         b"\x08\x01\x06\x2a\xb6\x00\x01\x57\xb1\x17m:(Ljava/lang/String;)V\x01\x01\x01\x10java/lang/String\x06length\x03()I\x00",
     );
     show_wrong_flags();
+    show_wrong_faults();
     show_wrong_texts();
+    show_wrong_counts();
     show_wrong_members();
+    show_wrong_kinds();
+    show_wrong_member_texts();
     show_pool_indexes();
     show_wrong_records();
+    show_excess();
     show_long_cases();
     show_numbers();
+    show_limits();
     show_records(b"\x02\x01\x00\x01x\x00\xff\xff\x03\x05\x04name\x01\x00\x07\x00\x01\x01\x01\x02y");
     show_lookups();
 }
