@@ -91,12 +91,12 @@ StartsWith run at (Value v next) =
     (k : ℕ) → v ≤ k → (rest : List ℕ) × (run ≡ groupsOf k v ++ rest) × (next ≡ at + length (groupsOf k v))
 StartsWith run at NotNumber = Unit {0}
 
-one-group : (k v : ℕ) → v < 128 → groupsOf k v ≡ v ∷ []
+pub one-group : (k v : ℕ) → v < 128 → groupsOf k v ≡ v ∷ []
 unfolding groupsOf
 one-group zero v small = refl
 one-group (suc k) v small = rw (lt-ltb v 128 small)
 
-more-groups : (k v low high : ℕ) → v ≡ low + 128 * high → low < 128 → 0 < high → groupsOf (suc k) v ≡ (128 + low) ∷ groupsOf k high
+pub more-groups : (k v low high : ℕ) → v ≡ low + 128 * high → low < 128 → 0 < high → groupsOf (suc k) v ≡ (128 + low) ∷ groupsOf k high
 unfolding groupsOf
 more-groups k v low high e small some =
     let large : 128 ≤ v = omega arith in
@@ -202,6 +202,7 @@ text-part-is bytes at t s =
 -- a text that is read stands
 pub record TextStands (bytes : List ℕ) (at start size : ℕ) : Type 0 where
   pub stands : Stands bytes at (textBytes (take size (drop start bytes)))
+  pub sized : length (take size (drop start bytes)) ≡ size
   pub fits : length (take size (drop start bytes)) ≤ greatest
   pub ends : start + size ≡ at + length (textBytes (take size (drop start bytes)))
 
@@ -222,6 +223,7 @@ text-stands bytes at start size are e = of (numberAt greatest bytes at) refl e
           stands =
               both-stand bytes at (numberBytes (length own)) own number
               (subst (λ (n : ℕ). Stands bytes n own) place (part-stands bytes start size));
+          sized = sized;
           fits = omega (arith, sized, read .2);
           ends = omega (arith, sized, place, length-append (numberBytes (length own)) own);
         }
