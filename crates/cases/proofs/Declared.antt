@@ -1,5 +1,5 @@
 -- The reader answers the offset of the first wrong item as it is declared, and no other.
--- Rests on: what stands is read and what is read stands (Reading).
+-- Rests on: what stands is read and what is read stands (Reading, Items).
 -- Assumes nothing.
 use Prim.Native.Nat.{ℕ, zero, suc, _+_, _≤_, _<_}
 use native.Mathlib.Omega.{arith}
@@ -35,6 +35,7 @@ use Rattle.casefile.proofs.Laws.{run-within}
 use Rattle.casefile.proofs.Runs.{member-then, record-then}
 use Rattle.cases.specs.Standing.{Stands}
 use Rattle.cases.specs.FirstWrong.{Reached, start, afterNumber, afterText, NothingRight, FirstWrong, FirstWrongDeclared}
+use Rattle.cases.proofs.Items.{number-on, text-on}
 use Rattle.cases.proofs.Reading.{number-reads, number-stands, text-reads, text-stands}
 
 true-test : (t : Bool) → T t → t ≡ true
@@ -118,15 +119,11 @@ module _ (bytes : List ℕ) (are : AreBytes bytes) where
 
   -- from each place that is reached the layout answers what it answers from the start
   along : {layout : Layout} {at : ℕ} → Reached bytes layout at → runBy caseLayout bytes 0 ≡ runBy layout bytes at
-  unfolding runBy textBytes
   along start = refl
-  along (afterNumber {right = right} {following = following} {at = at} v before fits passes stands) =
-      along before ∙ rw (number-reads greatest bytes at v fits stands, true-test (right v) passes)
-  along (afterText {following = following} {at = at} t before fits stands) =
-      along before ∙ rw (text-reads bytes at t fits stands) (ap (runBy following bytes) (sum at t))
-    where
-      sum : (at : ℕ) (t : List ℕ) → at + length (numberBytes (length t)) + length t ≡ at + length (textBytes t)
-      sum at t = omega (arith, length-append (numberBytes (length t)) t)
+  along (afterNumber {right = right} {following = following} {at = at} v earlier fits passes stands) =
+      along earlier ∙ number-on bytes at right following v fits (true-test (right v) passes) stands
+  along (afterText {following = following} {at = at} t earlier fits stands) =
+      along earlier ∙ text-on bytes at following t fits stands
 
 -- ---- the reader of the whole case is a run of the layout
 

@@ -181,6 +181,104 @@ module _ (bytes : List ℕ) (are : AreBytes bytes) where
           }
       by-text NotText f q = let y : _≡_ {A = ℕ} 0 1 = cc in absurd (omega arith)
 
+  -- a member that a run passed
+  record MemberBefore (last : ℕ) (following : ℕ → Layout) (at end : ℕ) : Type 0 where
+    member : Member
+    above : last < member .index
+    right : RightMember member
+    stands : Stands bytes at (memberBytes member)
+    onward : runBy (following (member .index)) bytes (at + length (memberBytes member)) ≡ End end
+
+  -- three texts that a run passed
+  record TextsBefore (following : Layout) (at end : ℕ) : Type 0 where
+    class : TextBefore (text (text following)) at end
+    name : TextBefore (text following) (at + length (textBytes (class .t))) end
+    descriptor : TextBefore following (at + length (textBytes (class .t)) + length (textBytes (name .t))) end
+
+  texts-back : (following : Layout) (at end : ℕ) → runBy (threeTexts following) bytes at ≡ End end → TextsBefore following at end
+  texts-back following at end e = of-class (text-back (text (text following)) at end e)
+    where
+      of-name :
+          (class : TextBefore (text (text following)) at end) →
+          TextBefore (text following) (at + length (textBytes (class .t))) end → TextsBefore following at end
+      of-name class name =
+          record {
+            class = class;
+            name = name;
+            descriptor = text-back following (at + length (textBytes (class .t)) + length (textBytes (name .t))) end (name .onward);
+          }
+
+      of-class : TextBefore (text (text following)) at end → TextsBefore following at end
+      of-class class = of-name class (text-back (text following) (at + length (textBytes (class .t))) end (class .onward))
+
+  member-back :
+      (last : ℕ) (following : ℕ → Layout) (at end : ℕ) → runBy (memberThen last following) bytes at ≡ End end →
+      MemberBefore last following at end
+  unfolding memberBytes textsBytes
+  member-back last following at end e =
+      of-index (number-back (λ i. ltb last i) (λ i. number (λ k. leb k 1) (λ k. threeTexts (following i))) at end e)
+    where
+      of-texts :
+          (index : NumberBefore (λ i. ltb last i) (λ i. number (λ k. leb k 1) (λ k. threeTexts (following i))) at end)
+          (kind : NumberBefore (λ k. leb k 1) (λ k. threeTexts (following (index .v))) (at + length (numberBytes (index .v))) end) →
+          TextsBefore (following (index .v)) (at + length (numberBytes (index .v)) + length (numberBytes (kind .v))) end →
+          MemberBefore last following at end
+      of-texts index kind texts =
+          let kindAt = at + length (numberBytes (index .v)) in
+          let classAt = kindAt + length (numberBytes (kind .v)) in
+          let class = textBytes (texts .class .t) in
+          let name = textBytes (texts .name .t) in
+          let descriptor = textBytes (texts .descriptor .t) in
+          let fromKind = numberBytes (kind .v) ++ (class ++ (name ++ descriptor)) in
+          let ends : classAt + length class + length name + length descriptor ≡ at + length (numberBytes (index .v) ++ fromKind) =
+          omega (
+            arith,
+            length-append (numberBytes (index .v)) fromKind,
+            length-append (numberBytes (kind .v)) (class ++ (name ++ descriptor)),
+            length-append class (name ++ descriptor),
+            length-append name descriptor,
+          ) in
+          record {
+            member =
+                record {
+                  index = index .v;
+                  kind = kind .v;
+                  class = texts .class .t;
+                  name = texts .name .t;
+                  descriptor = texts .descriptor .t;
+                };
+            above = ltb-true last (index .v) (index .passes);
+            right =
+                record {
+                  index = index .fits;
+                  kind = leb-true (kind .v) 1 (kind .passes);
+                  class = texts .class .fits;
+                  name = texts .name .fits;
+                  descriptor = texts .descriptor .fits;
+                };
+            stands =
+                both-stand bytes at (numberBytes (index .v)) fromKind (index .stands)
+                (both-stand bytes kindAt (numberBytes (kind .v)) (class ++ (name ++ descriptor)) (kind .stands)
+                (both-stand bytes classAt class (name ++ descriptor) (texts .class .stands)
+                (both-stand bytes (classAt + length class) name descriptor (texts .name .stands) (texts .descriptor .stands))));
+            onward = ap (runBy (following (index .v)) bytes) (sym ends) ∙ texts .descriptor .onward;
+          }
+
+      of-kind :
+          (index : NumberBefore (λ i. ltb last i) (λ i. number (λ k. leb k 1) (λ k. threeTexts (following i))) at end) →
+          NumberBefore (λ k. leb k 1) (λ k. threeTexts (following (index .v))) (at + length (numberBytes (index .v))) end →
+          MemberBefore last following at end
+      of-kind index kind =
+          of-texts index kind
+          (texts-back (following (index .v)) (at + length (numberBytes (index .v)) + length (numberBytes (kind .v))) end (kind .onward))
+
+      of-index :
+          NumberBefore (λ i. ltb last i) (λ i. number (λ k. leb k 1) (λ k. threeTexts (following i))) at end →
+          MemberBefore last following at end
+      of-index index =
+          of-kind index
+          (number-back (λ k. leb k 1) (λ k. threeTexts (following (index .v))) (at + length (numberBytes (index .v))) end (index .onward))
+
   -- members that a run passed
   pub record MembersBefore (count last : ℕ) (following : Layout) (at end : ℕ) : Type 0 where
     pub members : List Member
@@ -189,10 +287,29 @@ module _ (bytes : List ℕ) (are : AreBytes bytes) where
     pub stands : Stands bytes at (membersBytes members)
     pub onward : runBy following bytes (at + length (membersBytes members)) ≡ End end
 
+  -- one more
+  one-more-member :
+      (count last : ℕ) (following : Layout) (at end : ℕ)
+      (m : MemberBefore last (λ index. membersThen count index following) at end) →
+      MembersBefore count (m .member .index) following (at + length (memberBytes (m .member))) end →
+      MembersBefore (suc count) last following at end
+  unfolding membersBytes
+  one-more-member count last following at end m rest =
+      let own = memberBytes (m .member) in
+      let others = membersBytes (rest .members) in
+      let all : at + length own + length others ≡ at + length (own ++ others) = omega (arith, length-append own others) in
+      record {
+        members = m .member ∷ rest .members;
+        right = more (m .above) (m .right) (rest .right);
+        counted = ap suc (rest .counted);
+        stands = both-stand bytes at own others (m .stands) (rest .stands);
+        onward = ap (runBy following bytes) (sym all) ∙ rest .onward;
+      }
+
   pub members-back :
       (count last : ℕ) (following : Layout) (at end : ℕ) → runBy (membersThen count last following) bytes at ≡ End end →
       MembersBefore count last following at end
-  unfolding membersThen membersBytes memberBytes textsBytes
+  unfolding membersThen membersBytes
   members-back zero last following at end e =
       record {
         members = [];
@@ -202,53 +319,68 @@ module _ (bytes : List ℕ) (are : AreBytes bytes) where
         onward = ap (runBy following bytes) (omega arith) ∙ e;
       }
   members-back (suc count) last following at end e =
-      let index = number-back (λ i. ltb last i) (λ i. number (λ k. leb k 1) (λ k. threeTexts (membersThen count i following))) at end e in
-      let indexEnd = at + length (numberBytes (index .v)) in
-      let kind = number-back (λ k. leb k 1) (λ k. threeTexts (membersThen count (index .v) following)) indexEnd end (index .onward) in
-      let kindEnd = indexEnd + length (numberBytes (kind .v)) in
-      let onward = membersThen count (index .v) following in
-      let class = text-back (text (text onward)) kindEnd end (kind .onward) in
-      let classEnd = kindEnd + length (textBytes (class .t)) in
-      let name = text-back (text onward) classEnd end (class .onward) in
-      let nameEnd = classEnd + length (textBytes (name .t)) in
-      let descriptor = text-back onward nameEnd end (name .onward) in
-      let descriptorEnd = nameEnd + length (textBytes (descriptor .t)) in
-      let rest = members-back count (index .v) following descriptorEnd end (descriptor .onward) in
-      let m : Member =
-      record { index = index .v; kind = kind .v; class = class .t; name = name .t; descriptor = descriptor .t } in
-      let own =
-      both-stand bytes at (numberBytes (index .v)) _ (index .stands)
-      (both-stand bytes indexEnd (numberBytes (kind .v)) _ (kind .stands)
-      (both-stand bytes kindEnd (textBytes (class .t)) _ (class .stands)
-      (both-stand bytes classEnd (textBytes (name .t)) _ (name .stands) (descriptor .stands)))) in
-      let ends : descriptorEnd ≡ at + length (memberBytes m) =
-      omega (
-        arith,
-        length-append (numberBytes (index .v)) (numberBytes (kind .v) ++ textsBytes m),
-        length-append (numberBytes (kind .v)) (textsBytes m),
-        length-append (textBytes (class .t)) (textBytes (name .t) ++ textBytes (descriptor .t)),
-        length-append (textBytes (name .t)) (textBytes (descriptor .t)),
-      ) in
-      let all : descriptorEnd + length (membersBytes (rest .members)) ≡ at + length (memberBytes m ++ membersBytes (rest .members)) =
-      omega (arith, ends, length-append (memberBytes m) (membersBytes (rest .members))) in
-      record {
-        members = m ∷ rest .members;
-        right =
-            more (ltb-true last (index .v) (index .passes))
-            (record {
-              index = index .fits;
-              kind = leb-true (kind .v) 1 (kind .passes);
-              class = class .fits;
-              name = name .fits;
-              descriptor = descriptor .fits;
-            })
-            (rest .right);
-        counted = ap suc (rest .counted);
-        stands =
-            both-stand bytes at (memberBytes m) (membersBytes (rest .members)) own
-            (subst (λ (n : ℕ). Stands bytes n (membersBytes (rest .members))) ends (rest .stands));
-        onward = ap (runBy following bytes) (sym all) ∙ rest .onward;
-      }
+      let m = member-back last (λ index. membersThen count index following) at end e in
+      one-more-member count last following at end m
+      (members-back count (m .member .index) following (at + length (memberBytes (m .member))) end (m .onward))
+
+  -- a local record that a run passed
+  record RecordBefore (following : Layout) (at end : ℕ) : Type 0 where
+    local : Local
+    right : RightLocal local
+    stands : Stands bytes at (recordBytes local)
+    onward : runBy following bytes (at + length (recordBytes local)) ≡ End end
+
+  record-back :
+      (following : Layout) (at end : ℕ) → runBy (recordThen following) bytes at ≡ End end → RecordBefore following at end
+  unfolding recordBytes
+  record-back following at end e =
+      of-start (number-back any (λ a. number any (λ b. number any (λ c. text following))) at end e)
+    where
+      of-name :
+          (begin : NumberBefore any (λ a. number any (λ b. number any (λ c. text following))) at end)
+          (size : NumberBefore any (λ b. number any (λ c. text following)) (at + length (numberBytes (begin .v))) end)
+          (slot : NumberBefore any (λ c. text following) (at + length (numberBytes (begin .v)) + length (numberBytes (size .v))) end) →
+          TextBefore following
+          (at + length (numberBytes (begin .v)) + length (numberBytes (size .v)) + length (numberBytes (slot .v))) end →
+          RecordBefore following at end
+      of-name begin size slot name =
+          let sizeAt = at + length (numberBytes (begin .v)) in
+          let slotAt = sizeAt + length (numberBytes (size .v)) in
+          let nameAt = slotAt + length (numberBytes (slot .v)) in
+          let fromSlot = numberBytes (slot .v) ++ textBytes (name .t) in
+          let fromSize = numberBytes (size .v) ++ fromSlot in
+          let ends : nameAt + length (textBytes (name .t)) ≡ at + length (numberBytes (begin .v) ++ fromSize) =
+          omega (
+            arith,
+            length-append (numberBytes (begin .v)) fromSize,
+            length-append (numberBytes (size .v)) fromSlot,
+            length-append (numberBytes (slot .v)) (textBytes (name .t)),
+          ) in
+          record {
+            local = record { start = begin .v; size = size .v; slot = slot .v; name = name .t };
+            right = record { start = begin .fits; size = size .fits; slot = slot .fits; name = name .fits };
+            stands =
+                both-stand bytes at (numberBytes (begin .v)) fromSize (begin .stands)
+                (both-stand bytes sizeAt (numberBytes (size .v)) fromSlot (size .stands)
+                (both-stand bytes slotAt (numberBytes (slot .v)) (textBytes (name .t)) (slot .stands) (name .stands)));
+            onward = ap (runBy following bytes) (sym ends) ∙ name .onward;
+          }
+
+      of-slot :
+          (begin : NumberBefore any (λ a. number any (λ b. number any (λ c. text following))) at end)
+          (size : NumberBefore any (λ b. number any (λ c. text following)) (at + length (numberBytes (begin .v))) end) →
+          NumberBefore any (λ c. text following) (at + length (numberBytes (begin .v)) + length (numberBytes (size .v))) end →
+          RecordBefore following at end
+      of-slot begin size slot = of-name begin size slot (text-back following _ end (slot .onward))
+
+      of-size :
+          (begin : NumberBefore any (λ a. number any (λ b. number any (λ c. text following))) at end) →
+          NumberBefore any (λ b. number any (λ c. text following)) (at + length (numberBytes (begin .v))) end →
+          RecordBefore following at end
+      of-size begin size = of-slot begin size (number-back any (λ c. text following) _ end (size .onward))
+
+      of-start : NumberBefore any (λ a. number any (λ b. number any (λ c. text following))) at end → RecordBefore following at end
+      of-start begin = of-size begin (number-back any (λ b. number any (λ c. text following)) _ end (begin .onward))
 
   -- local records that a run passed
   pub record RecordsBefore (count : ℕ) (following : Layout) (at end : ℕ) : Type 0 where
@@ -258,10 +390,27 @@ module _ (bytes : List ℕ) (are : AreBytes bytes) where
     pub stands : Stands bytes at (recordsBytes locals)
     pub onward : runBy following bytes (at + length (recordsBytes locals)) ≡ End end
 
+  -- one more
+  one-more-record :
+      (count : ℕ) (following : Layout) (at end : ℕ) (r : RecordBefore (recordsThen count following) at end) →
+      RecordsBefore count following (at + length (recordBytes (r .local))) end → RecordsBefore (suc count) following at end
+  unfolding recordsBytes
+  one-more-record count following at end r rest =
+      let own = recordBytes (r .local) in
+      let others = recordsBytes (rest .locals) in
+      let all : at + length own + length others ≡ at + length (own ++ others) = omega (arith, length-append own others) in
+      record {
+        locals = r .local ∷ rest .locals;
+        right = laid.RightLocals.more (r .right) (rest .right);
+        counted = ap suc (rest .counted);
+        stands = both-stand bytes at own others (r .stands) (rest .stands);
+        onward = ap (runBy following bytes) (sym all) ∙ rest .onward;
+      }
+
   pub records-back :
       (count : ℕ) (following : Layout) (at end : ℕ) → runBy (recordsThen count following) bytes at ≡ End end →
       RecordsBefore count following at end
-  unfolding recordsThen recordsBytes recordBytes
+  unfolding recordsThen recordsBytes
   records-back zero following at end e =
       record {
         locals = [];
@@ -271,38 +420,6 @@ module _ (bytes : List ℕ) (are : AreBytes bytes) where
         onward = ap (runBy following bytes) (omega arith) ∙ e;
       }
   records-back (suc count) following at end e =
-      let onward = recordsThen count following in
-      let begin = number-back any (λ a. number any (λ b. number any (λ c. text onward))) at end e in
-      let beginEnd = at + length (numberBytes (begin .v)) in
-      let size = number-back any (λ b. number any (λ c. text onward)) beginEnd end (begin .onward) in
-      let sizeEnd = beginEnd + length (numberBytes (size .v)) in
-      let slot = number-back any (λ c. text onward) sizeEnd end (size .onward) in
-      let slotEnd = sizeEnd + length (numberBytes (slot .v)) in
-      let name = text-back onward slotEnd end (slot .onward) in
-      let nameEnd = slotEnd + length (textBytes (name .t)) in
-      let rest = records-back count following nameEnd end (name .onward) in
-      let r : Local = record { start = begin .v; size = size .v; slot = slot .v; name = name .t } in
-      let own =
-      both-stand bytes at (numberBytes (begin .v)) _ (begin .stands)
-      (both-stand bytes beginEnd (numberBytes (size .v)) _ (size .stands)
-      (both-stand bytes sizeEnd (numberBytes (slot .v)) _ (slot .stands) (name .stands))) in
-      let ends : nameEnd ≡ at + length (recordBytes r) =
-      omega (
-        arith,
-        length-append (numberBytes (begin .v)) (numberBytes (size .v) ++ (numberBytes (slot .v) ++ textBytes (name .t))),
-        length-append (numberBytes (size .v)) (numberBytes (slot .v) ++ textBytes (name .t)),
-        length-append (numberBytes (slot .v)) (textBytes (name .t)),
-      ) in
-      let all : nameEnd + length (recordsBytes (rest .locals)) ≡ at + length (recordBytes r ++ recordsBytes (rest .locals)) =
-      omega (arith, ends, length-append (recordBytes r) (recordsBytes (rest .locals))) in
-      record {
-        locals = r ∷ rest .locals;
-        right =
-            laid.RightLocals.more (record { start = begin .fits; size = size .fits; slot = slot .fits; name = name .fits })
-            (rest .right);
-        counted = ap suc (rest .counted);
-        stands =
-            both-stand bytes at (recordBytes r) (recordsBytes (rest .locals)) own
-            (subst (λ (n : ℕ). Stands bytes n (recordsBytes (rest .locals))) ends (rest .stands));
-        onward = ap (runBy following bytes) (sym all) ∙ rest .onward;
-      }
+      let r = record-back (recordsThen count following) at end e in
+      one-more-record count following at end r
+      (records-back count following (at + length (recordBytes (r .local))) end (r .onward))
