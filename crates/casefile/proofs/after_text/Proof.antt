@@ -1,0 +1,32 @@
+-- `casefile::after_text` meets its contract. The place behind a text is its start and its length.
+-- Assumes nothing.
+use native.Mathlib.Omega.{arith}
+use mathlib.Core.Path.{_∙_, sym}
+use borrow.Author.Needs.{needs}
+use Rattle.casefile.specs.Text.{afterText}
+use Rattle.casefile.proofs.after_text.Statement.{statement}
+use Rattle.casefile.proofs.after_text.Tie as tie
+
+read-text-requires : tie.Need-read-text-requires
+read-text-requires c κs = search needs
+
+enum-known-start : tie.Need-enum-known-start
+enum-known-start c = search needs
+
+enum-told : tie.Need-enum-told
+enum-told c = search needs
+
+returns : tie.Need-returns
+unfolding afterText
+returns c = sym (rw (sym (c .before .before .read-text .ensures .0) ∙ c .enum-told .given .1))
+
+add-result : tie.Need-add-result
+add-result c = omega (arith, rw (c .before .start .given .1) at (c .before .before .before .read-text .ensures .1))
+
+returns-2 : tie.Need-returns-2
+unfolding afterText
+returns-2 c = sym (rw (sym (c .before .before .before .read-text .ensures .0) ∙ c .before .start .given .1))
+
+pub after-text-spec : {M : Type 1} → statement M
+after-text-spec =
+    tie.close (tie.spec read-text-requires enum-known-start enum-told returns add-result returns-2)

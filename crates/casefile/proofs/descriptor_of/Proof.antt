@@ -1,0 +1,26 @@
+-- `casefile::descriptor_of` meets its contract. It is the text behind the second.
+-- Assumes nothing.
+use mathlib.Core.Path.{_∙_, ap}
+use borrow.Author.Needs.{needs}
+use Rattle.casefile.specs.Text.{textPart, afterText, descriptorOf}
+use Rattle.casefile.proofs.descriptor_of.Statement.{statement}
+use Rattle.casefile.proofs.descriptor_of.Tie as tie
+
+after-text-requires : tie.Need-after-text-requires
+after-text-requires c κs = search needs
+
+after-text-requires-2 : tie.Need-after-text-requires-2
+after-text-requires-2 c κs = search needs
+
+text-part-requires : tie.Need-text-part-requires
+text-part-requires c κs = search needs
+
+returns : tie.Need-returns
+unfolding descriptorOf
+returns c =
+    let texts = c .before .before .before .before .args .texts .now in
+    c .text-part .ensures ∙ ap (textPart texts) (c .before .after-text2 .ensures ∙ ap (afterText texts) (c .before .before .after-text .ensures))
+
+pub descriptor-of-spec : {M : Type 1} → statement M
+descriptor-of-spec =
+    tie.close (tie.spec after-text-requires after-text-requires-2 text-part-requires returns)

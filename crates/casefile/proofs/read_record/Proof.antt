@@ -1,0 +1,123 @@
+-- `casefile::read_record` meets its contract. Three numbers and a text, in the definition's order.
+-- Assumes nothing.
+use native.Mathlib.Omega.{arith}
+use mathlib.Core.Path.{_∙_, sym, refl}
+use borrow.Author.Needs.{needs}
+use Rattle.casefile.specs.LocalRecord.{recordAt}
+use Rattle.casefile.proofs.read_record.Statement.{statement}
+use Rattle.casefile.proofs.read_record.Tie as tie
+
+read-number-requires : tie.Need-read-number-requires
+read-number-requires c κs = search needs
+
+enum-known-start : tie.Need-enum-known-start
+enum-known-start c = search needs
+
+enum-told : tie.Need-enum-told
+enum-told c = search needs
+
+returns : tie.Need-returns
+unfolding recordAt
+returns c = (sym (rw (sym (c .before .before .read-number .ensures .0) ∙ c .enum-told .given .1)), tt)
+
+read-number-requires-2 : tie.Need-read-number-requires-2
+read-number-requires-2 c κs = search needs
+
+enum-known-length : tie.Need-enum-known-length
+enum-known-length c = search needs
+
+enum-told-2 : tie.Need-enum-told-2
+enum-told-2 c = search needs
+
+returns-2 : tie.Need-returns-2
+unfolding recordAt
+returns-2 c =
+    let after-read-number2 = c .before .before in
+    let after-start = after-read-number2 .before .before in
+    let after-read-number = after-start .before .before in
+    (sym (rw (sym (after-read-number .read-number .ensures .0) ∙ after-start .start .given .1, sym (after-read-number2 .read-number2 .ensures .0) ∙ c .enum-told2 .given .1)), tt)
+
+read-number-requires-3 : tie.Need-read-number-requires-3
+read-number-requires-3 c κs = search needs
+
+enum-known-slot : tie.Need-enum-known-slot
+enum-known-slot c = search needs
+
+enum-told-3 : tie.Need-enum-told-3
+enum-told-3 c = search needs
+
+returns-3 : tie.Need-returns-3
+unfolding recordAt
+returns-3 c =
+    let after-read-number3 = c .before .before in
+    let after-length = after-read-number3 .before .before in
+    let after-read-number2 = after-length .before .before in
+    let after-start = after-read-number2 .before .before in
+    let after-read-number = after-start .before .before in
+    (sym (rw (sym (after-read-number .read-number .ensures .0) ∙ after-start .start .given .1, sym (after-read-number2 .read-number2 .ensures .0) ∙ after-length .length .given .1, sym (after-read-number3 .read-number3 .ensures .0) ∙ c .enum-told3 .given .1)), tt)
+
+read-text-requires : tie.Need-read-text-requires
+read-text-requires c κs = search needs
+
+enum-known-name : tie.Need-enum-known-name
+enum-known-name c = search needs
+
+enum-told-4 : tie.Need-enum-told-4
+enum-told-4 c = search needs
+
+returns-4 : tie.Need-returns-4
+unfolding recordAt
+returns-4 c =
+    let after-read-text = c .before .before in
+    let after-slot = after-read-text .before .before in
+    let after-read-number3 = after-slot .before .before in
+    let after-length = after-read-number3 .before .before in
+    let after-read-number2 = after-length .before .before in
+    let after-start = after-read-number2 .before .before in
+    let after-read-number = after-start .before .before in
+    (sym (rw (sym (after-read-number .read-number .ensures .0) ∙ after-start .start .given .1, sym (after-read-number2 .read-number2 .ensures .0) ∙ after-length .length .given .1, sym (after-read-number3 .read-number3 .ensures .0) ∙ after-slot .slot .given .1, sym (after-read-text .read-text .ensures .0) ∙ c .enum-told4 .given .1)), tt)
+
+add-t15 : tie.Need-add-t15
+add-t15 c = omega (arith, rw (c .before .name .given .1) at (c .before .before .before .read-text .ensures .1))
+
+returns-5 : tie.Need-returns-5
+unfolding recordAt
+returns-5 c =
+    let after-name = c .before in
+    let after-read-text = after-name .before .before in
+    let after-slot = after-read-text .before .before in
+    let after-read-number3 = after-slot .before .before in
+    let after-length = after-read-number3 .before .before in
+    let after-read-number2 = after-length .before .before in
+    let after-start = after-read-number2 .before .before in
+    let after-read-number = after-start .before .before in
+    let starts = rw (after-start .start .given .1) at (after-read-number .read-number .ensures .1) in
+    let lengths = rw (after-length .length .given .1) at (after-read-number2 .read-number2 .ensures .1) in
+    let slots = rw (after-slot .slot .given .1) at (after-read-number3 .read-number3 .ensures .1) in
+    let names = rw (after-name .name .given .1) at (after-read-text .read-text .ensures .1) in (
+      sym (rw (sym (after-read-number .read-number .ensures .0) ∙ after-start .start .given .1, sym (after-read-number2 .read-number2 .ensures .0) ∙ after-length .length .given .1, sym (after-read-number3 .read-number3 .ensures .0) ∙ after-slot .slot .given .1, sym (after-read-text .read-text .ensures .0) ∙ after-name .name .given .1)),
+      (starts .0, lengths .0, slots .0, names .0, omega (arith, starts .1, lengths .1, slots .1, names .1), refl, names .2),
+    )
+
+pub read-record-spec : {M : Type 1} → statement M
+read-record-spec =
+    tie.close
+    (tie.spec
+    read-number-requires
+    enum-known-start
+    enum-told
+    returns
+    read-number-requires-2
+    enum-known-length
+    enum-told-2
+    returns-2
+    read-number-requires-3
+    enum-known-slot
+    enum-told-3
+    returns-3
+    read-text-requires
+    enum-known-name
+    enum-told-4
+    returns-4
+    add-t15
+    returns-5)

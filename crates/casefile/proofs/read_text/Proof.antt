@@ -1,0 +1,44 @@
+-- `casefile::read_text` meets its contract. A text fits where its length is at most what is left behind the length number.
+-- Assumes nothing.
+use native.Mathlib.Omega.{arith}
+use mathlib.Core.Path.{_∙_, sym}
+use lib.ListN.{length}
+use borrow.Author.Needs.{needs}
+use borrow.Author.Tests.{le-leb, lt-leb}
+use Rattle.casefile.specs.Text.{textAt, textWithin}
+use Rattle.casefile.specs.declared.Text.{Text}
+use Rattle.casefile.proofs.Laws.{kept, text-within}
+use Rattle.casefile.proofs.read_text.Statement.{statement}
+use Rattle.casefile.proofs.read_text.Tie as tie
+
+read-number-requires : tie.Need-read-number-requires
+read-number-requires c κs = search needs
+
+enum-known-length : tie.Need-enum-known-length
+enum-known-length c = search needs
+
+enum-told : tie.Need-enum-told
+enum-told c = search needs
+
+returns : tie.Need-returns
+unfolding textAt
+returns c = (sym (rw (sym (c .before .before .read-number .ensures .0) ∙ c .enum-told .given .1)), tt)
+
+sub-if1 : tie.Need-sub-if1
+sub-if1 c = omega (arith, rw (c .before .length .given .1) at (c .before .before .before .read-number .ensures .1))
+
+returns-2 : tie.Need-returns-2
+unfolding textAt
+returns-2 c =
+    let a = c .before .before .before .before .before .before .args in
+    kept (λ (t : Text). textWithin (length (a .bytes .now)) (a .at) t)
+    (sym (rw (sym (c .before .before .before .before .read-number .ensures .0) ∙ c .before .before .length .given .1, le-leb _ _ (c .if1 .taken)))) (text-within (a .bytes .now) (a .at))
+
+returns-3 : tie.Need-returns-3
+unfolding textAt
+returns-3 c = (sym (rw (sym (c .before .before .before .before .read-number .ensures .0) ∙ c .before .before .length .given .1, lt-leb _ _ (c .if1 .left))), tt)
+
+pub read-text-spec : {M : Type 1} → statement M
+read-text-spec =
+    tie.close
+    (tie.spec read-number-requires enum-known-length enum-told returns sub-if1 returns-2 returns-3)

@@ -1,0 +1,56 @@
+-- `casefile::text_part` meets its contract. The part has the text's start and length.
+-- Assumes nothing.
+use native.Mathlib.Nat.{add-sub-cancel-left}
+use native.Mathlib.Omega.{arith}
+use mathlib.Core.Path.{_∙_, sym}
+use borrow.Author.Needs.{needs}
+use Rattle.casefile.specs.Text.{textPart}
+use Rattle.casefile.proofs.text_part.Statement.{statement}
+use Rattle.casefile.proofs.text_part.Tie as tie
+
+read-text-requires : tie.Need-read-text-requires
+read-text-requires c κs = search needs
+
+enum-known-start : tie.Need-enum-known-start
+enum-known-start c = search needs
+
+enum-told : tie.Need-enum-told
+enum-told c = search needs
+
+slice-aggregate-result : tie.Need-slice-aggregate-result
+slice-aggregate-result c = search needs
+
+returns : tie.Need-returns
+unfolding textPart
+returns c = sym (rw (sym (c .before .before .before .read-text .ensures .0) ∙ c .before .enum-told .given .1))
+
+add-end : tie.Need-add-end
+add-end c = omega (arith, rw (c .before .start .given .1) at (c .before .before .before .read-text .ensures .1))
+
+sub-result : tie.Need-sub-result
+sub-result c = search needs
+
+part-result-start : tie.Need-part-result-start
+part-result-start c = search needs
+
+part-result-end : tie.Need-part-result-end
+part-result-end c = omega (arith, rw (c .before .start .given .1) at (c .before .before .before .read-text .ensures .1))
+
+returns-2 : tie.Need-returns-2
+unfolding textPart
+returns-2 c = simp (sym (c .before .before .before .before .read-text .ensures .0) ∙ c .before .before .start .given .1, add-sub-cancel-left)
+
+pub text-part-spec : {M : Type 1} → statement M
+text-part-spec =
+    tie.close
+    (tie.spec
+    read-text-requires
+    enum-known-start
+    enum-told
+    slice-aggregate-result
+    returns
+    add-end
+    sub-result
+    part-result-start
+    part-result-end
+    returns-2)

@@ -1,0 +1,7 @@
+pub mod LocalRecord
+pub mod Layout
+pub mod Member
+pub mod Number
+pub mod Parts
+pub mod Text
+pub mod Whole

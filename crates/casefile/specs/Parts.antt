@@ -1,0 +1,44 @@
+-- The parts of a case, and the bytes that they lay out to (document 01, "The case").
+-- Assumes nothing.
+use Prim.Native.Nat.{ℕ, _+_}
+use mathlib.Core.List.{List, _++_}
+use lib.ListN.{take, drop}
+use Rattle.casefile.specs.Number.{numberBytes}
+use Rattle.casefile.specs.Text.{textBytes}
+use Rattle.casefile.specs.declared.Places.{Places}
+
+-- four runs of bytes, two numbers and two counts
+pub record Parts : Type 0 where
+  pub flags : ℕ
+  pub fault : ℕ
+  pub code : List ℕ
+  pub signature : List ℕ
+  pub memberCount : ℕ
+  pub members : List ℕ
+  pub recordCount : ℕ
+  pub records : List ℕ
+
+-- "A case holds, in order: access flags, faulting index, code text, name signature text, member count, members, record
+-- count, local records, and nothing after."
+unfoldable pub caseBytes : Parts → List ℕ
+caseBytes p =
+    numberBytes (p .flags) ++ (numberBytes (p .fault) ++ (textBytes (p .code) ++ (textBytes (p .signature) ++
+    (numberBytes (p .memberCount) ++ (p .members ++ (numberBytes (p .recordCount) ++ p .records))))))
+
+-- so many bytes from a place on
+abbrev pub partAt : List ℕ → ℕ → ℕ → List ℕ
+partAt bytes start size = take size (drop start bytes)
+
+-- the parts that lie at these places
+unfoldable pub partsOf : List ℕ → Places → Parts
+partsOf bytes places =
+    record {
+      flags = places .flags;
+      fault = places .fault;
+      code = partAt bytes (places .code) (places .«code_length»);
+      signature = partAt bytes (places .signature) (places .«signature_length»);
+      memberCount = places .«member_count»;
+      members = partAt bytes (places .members) (places .«members_length»);
+      recordCount = places .«record_count»;
+      records = partAt bytes (places .records) (places .«records_length»);
+    }

@@ -1,0 +1,6 @@
+pub mod Declared
+pub mod Found
+pub mod Groups
+pub mod Items
+pub mod Laying
+pub mod Reading

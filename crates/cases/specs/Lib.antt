@@ -1,0 +1,5 @@
+pub mod FirstWrong
+pub mod Item
+pub mod LaidOut
+pub mod Lookup
+pub mod Standing
