@@ -1,14 +1,13 @@
 -- Writing the numbers of a text that was judged: what is still to be written over what stands gives the whole.
 -- Assumes nothing.
-use Prim.Native.Nat.{ℕ, zero, suc, _+_, _-_, _*_, _≤_, _<_}
+use Prim.Native.Nat.{ℕ, suc, _+_, _-_, _*_, _≤_}
 use native.Mathlib.Omega.{arith}
-use native.Mathlib.Nat.{add-zero}
 use mathlib.Core.Path.{_≡_, refl, _∙_, sym, ap}
 use mathlib.Core.Bool.{Bool, true, false}
-use mathlib.Core.List.{List, [], _∷_, _++_, append-assoc, append-nil}
+use mathlib.Core.List.{List, [], _∷_, _++_, append-assoc}
 use lib.Dec.{eqb, ltb}
-use lib.ListN.{length, getD, set, take, drop, length-append, take-append-drop}
-use lib.Seq.{sets-eq, take-at, drop-at, length-take-le, drop-append-add, drop-drop}
+use lib.ListN.{length, set, take, drop, length-append}
+use lib.Seq.{sets-eq, take-at, length-take-le, drop-append-add, drop-drop}
 use Rattle.jtype.specs.OneType.{typeAt}
 use Rattle.jtype.specs.declared.Next.{Next}
 use Rattle.jtype.specs.declared.Next.the-variants as next
@@ -16,7 +15,7 @@ use Rattle.jtype.specs.declared.Refusal.{Refusal}
 use Rattle.jtype.specs.declared.TypeRecord.{TypeRecord}
 use Rattle.jdescriptor.specs.Reading.{Reading, types, refused, after, returnAt, parameter, parametersAt, methodReading}
 use Rattle.jdescriptor.specs.Answer.{four, numbersOf, splice, IsTypes, recordsOf}
-use Rattle.jdescriptor.proofs.Judging.{Enough, enough-more, turn, no-text, not-opened, opened}
+use Rattle.jdescriptor.proofs.Judging.{Enough, turn, no-text, not-opened, opened}
 
 pub set-four :
     (a b c e : ℕ) (l : List ℕ) (k : ℕ) → k + 4 ≤ length l →
@@ -36,7 +35,8 @@ unfolding splice
 splice-more u v d k h =
     let front = take k d in
     let behind = drop (k + length u) d in
-    let size : length (front ++ u) ≡ k + length u = length-append front u ∙ ap (λ (n : ℕ). n + length u) (length-take-le k d (omega arith)) in
+    let size : length (front ++ u) ≡ k + length u =
+    length-append front u ∙ ap (λ (n : ℕ). n + length u) (length-take-le k d (omega arith)) in
     let one : front ++ (u ++ behind) ≡ (front ++ u) ++ behind = sym (append-assoc front u behind) in
     let kept : take (k + length u) (front ++ (u ++ behind)) ≡ front ++ u =
     ap (take (k + length u)) one ∙ take-at (front ++ u) behind (k + length u) size in
@@ -54,7 +54,8 @@ pub record Filling (R : Reading) (cells : List ℕ) (k : ℕ) (wanted : List ℕ
   pub from-here : splice k (numbersOf (recordsOf R)) cells ≡ wanted
 
 one-fits :
-    (t : TypeRecord) (R : Reading) (cells : List ℕ) (k : ℕ) (wanted : List ℕ) → Filling (after t R) cells k wanted → k + 4 ≤ length cells
+    (t : TypeRecord) (R : Reading) (cells : List ℕ) (k : ℕ) (wanted : List ℕ) → Filling (after t R) cells k wanted →
+    k + 4 ≤ length cells
 one-fits t (types ts) cells k wanted f = omega (arith, f .room)
 one-fits t (refused r) cells k wanted f = absurd (f .are)
 
@@ -86,13 +87,15 @@ module _ (text cells : List ℕ) (at left k : ℕ) (wanted : List ℕ) (enough :
   one-more t end e f = by (eqb (t .letter) 86) refl (here (next.Is t end) e f)
     where
       by :
-          (b : Bool) → eqb (t .letter) 86 ≡ b → Filling (parameter (next.Is t end) (parametersAt (left - 1) text) (returnAt text (at + 1))) cells k wanted →
+          (b : Bool) → eqb (t .letter) 86 ≡ b →
+          Filling (parameter (next.Is t end) (parametersAt (left - 1) text) (returnAt text (at + 1))) cells k wanted →
           Filling (after t (parametersAt (left - 1) text end)) cells k wanted
       by true v g = absurd ((rw v at g) .are)
       by false v g = rw v at g
 
   pub fits :
-      (t : TypeRecord) (end : ℕ) → typeAt text at ≡ next.Is t end → Filling (parametersAt left text at) cells k wanted → k + 4 ≤ length cells
+      (t : TypeRecord) (end : ℕ) → typeAt text at ≡ next.Is t end → Filling (parametersAt left text at) cells k wanted →
+      k + 4 ≤ length cells
   fits t end e f = one-fits t (parametersAt (left - 1) text end) cells k wanted (one-more t end e f)
 
   pub filled :
@@ -102,7 +105,8 @@ module _ (text cells : List ℕ) (at left k : ℕ) (wanted : List ℕ) (enough :
   filled t end e f = one-written t (parametersAt (left - 1) text end) cells k wanted (one-more t end e f)
 
   pub at-close :
-      typeAt text at ≡ next.Close → Filling (parametersAt left text at) cells k wanted → Filling (returnAt text (at + 1)) cells k wanted
+      typeAt text at ≡ next.Close → Filling (parametersAt left text at) cells k wanted →
+      Filling (returnAt text (at + 1)) cells k wanted
   at-close e f = here next.Close e f
 
   pub never-refused : (r : Refusal) → typeAt text at ≡ next.Refused r → Filling (parametersAt left text at) cells k wanted → ⊥
@@ -119,7 +123,8 @@ begun (x ∷ text) d are room = by (eqb x 40) refl
     by :
         (b : Bool) → eqb x 40 ≡ b →
         Enough (x ∷ text) 1 (length (x ∷ text))
-        × Filling (parametersAt (length (x ∷ text)) (x ∷ text) 1) d 0 (splice 0 (numbersOf (recordsOf (methodReading (x ∷ text)))) d)
+        × Filling (parametersAt (length (x ∷ text)) (x ∷ text) 1) d 0
+        (splice 0 (numbersOf (recordsOf (methodReading (x ∷ text)))) d)
     by true e = (
       record { inside = omega arith; turns = omega arith },
       rw (opened (x ∷ text) e) (record { are = are; room = omega arith; from-here = refl }),

@@ -1,11 +1,11 @@
 -- A turn of the walk over the parameters: what the definition reads from here is what it reads from the start.
 -- Assumes nothing.
-use Prim.Native.Nat.{ℕ, zero, suc, _+_, _-_, _*_, _/_, _≤_, _<_}
+use Prim.Native.Nat.{ℕ, suc, _+_, _-_, _*_, _/_, _≤_, _<_}
 use native.Mathlib.Omega.{arith}
 use mathlib.Core.Path.{_≡_, refl, _∙_, sym, ap}
-use mathlib.Core.Bool.{Bool, true, false}
+use mathlib.Core.Bool.{true, false}
 use mathlib.Core.List.{List, [], _∷_}
-use lib.Dec.{eqb, ltb}
+use lib.Dec.{eqb}
 use lib.ListN.{length, getD}
 use borrow.Author.Tests.{lt-ltb, le-ltb}
 use Rattle.jtype.specs.OneType.{typeAt}
@@ -34,7 +34,8 @@ type-ends text at t end e = rw e at (type-within text at)
 pub close-inside : (text : List ℕ) (at : ℕ) → typeAt text at ≡ next.Close → at < length text
 close-inside text at e = rw e at (type-within text at)
 
-pub enough-more : (text : List ℕ) (at left end : ℕ) → Enough text at left → at < end → end ≤ length text → Enough text end (left - 1)
+pub enough-more :
+    (text : List ℕ) (at left end : ℕ) → Enough text at left → at < end → end ≤ length text → Enough text end (left - 1)
 enough-more text at left end e h k = let t = e .turns in record { inside = k; turns = omega arith }
 
 pub turn :

@@ -10,7 +10,8 @@ use Rattle.jtype.specs.OneType.{typeAt}
 use Rattle.jtype.specs.declared.Next.{Next}
 use Rattle.jtype.specs.declared.Next.the-variants as next
 use Rattle.jtype.specs.declared.Refusal.{Refusal}
-use Rattle.jtype.specs.declared.Refusal.the-variants.{UnexpectedEnd, LoneClose, TrailingAfterType, MissingOpening, VoidParameter, MissingReturn, TrailingAfterMethod}
+use Rattle.jtype.specs.declared.Refusal.the-variants.{UnexpectedEnd, LoneClose, TrailingAfterType, MissingOpening}
+use Rattle.jtype.specs.declared.Refusal.the-variants.{VoidParameter, MissingReturn, TrailingAfterMethod}
 use Rattle.jtype.specs.declared.TypeRecord.{TypeRecord}
 
 -- the types in order, the return last; or the refusal

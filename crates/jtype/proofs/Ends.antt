@@ -2,13 +2,13 @@
 -- Assumes nothing.
 use Prim.Native.Nat.{ℕ, suc, _+_, _-_, _≤_, _<_}
 use native.Mathlib.Omega.{arith}
-use mathlib.Core.Path.{_≡_, subst}
 use mathlib.Core.Bool.{Bool, true, false}
 use mathlib.Core.List.{List, [], _∷_}
 use lib.Dec.{eqb, ltb}
 use lib.ListN.{length, drop, length-drop}
 use Rattle.basics.specs.Choice.{pick}
-use Rattle.jtype.specs.OneType.{brackets, semicolonIn, semicolonFrom, isBase, unnamedType, classType, element, typeIn, typeAt}
+use Rattle.jtype.specs.OneType.{brackets, semicolonIn, semicolonFrom, isBase, unnamedType, classType, element, typeIn}
+use Rattle.jtype.specs.OneType.{typeAt}
 use Rattle.jtype.specs.declared.Found.{Found}
 use Rattle.jtype.specs.declared.Found.the-variants.{At, Absent}
 use Rattle.jtype.specs.declared.Next.{Next}

@@ -1,27 +1,29 @@
 -- How the definitions of a type go on by one byte, and where a type that was read ends.
 -- Assumes nothing.
-use Prim.Native.Nat.{ℕ, suc, _+_, _-_, _≤_, _<_}
+use Prim.Native.Nat.{ℕ, _+_, _-_, _≤_, _<_}
 use native.Mathlib.Numerals.{add-one}
 use native.Mathlib.Omega.{arith}
-use mathlib.Core.Path.{_≡_, refl, _∙_, sym, ap}
-use mathlib.Core.Bool.{Bool, true, false}
-use mathlib.Core.List.{List, [], _∷_}
+use mathlib.Core.Path.{_≡_}
+use mathlib.Core.Bool.{true, false}
+use mathlib.Core.List.{List}
 use lib.Dec.{eqb, ltb}
 use lib.ListN.{length, getD, drop, drop-of-length-le}
 use lib.Seq.{drop-cons, drop-drop}
-use borrow.Author.Tests.{eq-eqb, ne-eqb}
 use Rattle.basics.specs.Choice.{pick}
-use Rattle.jtype.specs.OneType.{brackets, semicolonIn, semicolonFrom, isBase, unnamedType, classType, element, typeIn, typeAt}
+use Rattle.jtype.specs.OneType.{brackets, semicolonIn, semicolonFrom, isBase, unnamedType, classType, element, typeIn}
+use Rattle.jtype.specs.OneType.{typeAt}
 use Rattle.jtype.specs.declared.Found.the-variants.{At, Absent}
-use Rattle.jtype.specs.declared.Next.the-variants.{Is, Close, Refused}
-use Rattle.jtype.specs.declared.Refusal.the-variants.{UnexpectedEnd, TooManyDimensions, CloseAfterBracket, ArrayOfVoid, Unrecognised}
+use Rattle.jtype.specs.declared.Next.the-variants.{Close, Refused}
+use Rattle.jtype.specs.declared.Refusal.the-variants.{UnexpectedEnd, TooManyDimensions, CloseAfterBracket, ArrayOfVoid}
+use Rattle.jtype.specs.declared.Refusal.the-variants.{Unrecognised}
 
 -- the place after the brackets
 pub brackets-at-end : (text : List ℕ) (at : ℕ) → length text ≤ at → at + brackets (drop at text) ≡ at
 unfolding brackets
 brackets-at-end text at past = rw (drop-of-length-le text past) (omega arith)
 
-pub brackets-stop : (text : List ℕ) (at : ℕ) → at < length text → eqb (getD text at 0) 91 ≡ false → at + brackets (drop at text) ≡ at
+pub brackets-stop :
+    (text : List ℕ) (at : ℕ) → at < length text → eqb (getD text at 0) 91 ≡ false → at + brackets (drop at text) ≡ at
 unfolding brackets
 brackets-stop text at inside other = rw (drop-cons text at 0 inside, other) (omega arith)
 

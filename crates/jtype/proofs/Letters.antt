@@ -2,7 +2,7 @@
 -- Assumes nothing.
 use Prim.Native.Nat.{ℕ, _+_, _≤_, _<_}
 use mathlib.Core.Path.{_≡_}
-use mathlib.Core.Bool.{Bool, true, false}
+use mathlib.Core.Bool.{Bool, true}
 use borrow.Author.Tests.{ne-eqb}
 use lib.Dec.{T, eqb}
 use Rattle.basics.specs.Choice.{pick, alike}
@@ -17,4 +17,5 @@ pub all-of-run :
     (want : Bool) (a n : ℕ) → T (every (λ k. as-wanted want (a + k)) n) →
     (x : ℕ) → a ≤ x → x < a + n → (x ≡ 70 → ⊥) → (x ≡ 83 → ⊥) → (x ≡ 90 → ⊥) → isBase x ≡ want
 all-of-run want a n t x from below f s z =
-    alike-is (isBase x) want (rw (ne-eqb x 70 f, ne-eqb x 83 s, ne-eqb x 90 z) at (every-from (as-wanted want) a n t x from below))
+    alike-is (isBase x) want
+    (rw (ne-eqb x 70 f, ne-eqb x 83 s, ne-eqb x 90 z) at (every-from (as-wanted want) a n t x from below))

@@ -6,8 +6,10 @@ use lib.Dec.{eqb}
 use Rattle.basics.specs.Choice.{pick}
 use Rattle.jtype.specs.Refusal.{numberOf}
 use Rattle.jtype.specs.declared.Refusal.{Refusal}
-use Rattle.jtype.specs.declared.Refusal.the-variants.{UnexpectedEnd, TooManyDimensions, LoneClose, TrailingAfterType, EmptyClassName, MissingSemicolon, CloseAfterBracket}
-use Rattle.jtype.specs.declared.Refusal.the-variants.{ArrayOfVoid, Unrecognised, MissingOpening, VoidParameter, MissingReturn, TrailingAfterMethod, NoRoom}
+use Rattle.jtype.specs.declared.Refusal.the-variants.{UnexpectedEnd, TooManyDimensions, LoneClose, TrailingAfterType}
+use Rattle.jtype.specs.declared.Refusal.the-variants.{EmptyClassName, MissingSemicolon, CloseAfterBracket}
+use Rattle.jtype.specs.declared.Refusal.the-variants.{ArrayOfVoid, Unrecognised, MissingOpening, VoidParameter}
+use Rattle.jtype.specs.declared.Refusal.the-variants.{MissingReturn, TrailingAfterMethod, NoRoom}
 
 abbrev refusal : ℕ → Refusal
 refusal n =

@@ -2,8 +2,10 @@
 -- Assumes nothing.
 use Prim.Native.Nat.{ℕ}
 use Rattle.jtype.specs.declared.Refusal.{Refusal}
-use Rattle.jtype.specs.declared.Refusal.the-variants.{UnexpectedEnd, TooManyDimensions, LoneClose, TrailingAfterType, EmptyClassName, MissingSemicolon, CloseAfterBracket}
-use Rattle.jtype.specs.declared.Refusal.the-variants.{ArrayOfVoid, Unrecognised, MissingOpening, VoidParameter, MissingReturn, TrailingAfterMethod, NoRoom}
+use Rattle.jtype.specs.declared.Refusal.the-variants.{UnexpectedEnd, TooManyDimensions, LoneClose, TrailingAfterType}
+use Rattle.jtype.specs.declared.Refusal.the-variants.{EmptyClassName, MissingSemicolon, CloseAfterBracket}
+use Rattle.jtype.specs.declared.Refusal.the-variants.{ArrayOfVoid, Unrecognised, MissingOpening, VoidParameter}
+use Rattle.jtype.specs.declared.Refusal.the-variants.{MissingReturn, TrailingAfterMethod, NoRoom}
 
 -- "1 unexpected end; 2 over 255 dimensions; then the InvalidFormat texts: 3 lone `)` as a type, 4 trailing after a type,
 -- 5 empty class name, 6 no semicolon, 7 `)` after `[`, 8 array of void, 9 unrecognised, 10 no opening `(`, 11 void parameter,

@@ -1,4 +1,4 @@
--- `jdescriptor::fill_method` meets its contract. The loop's invariant: what is still to be written over what stands gives the whole.
+-- `jdescriptor::fill_method` meets its contract. Invariant: what is still to be written over what stands gives the whole.
 -- Assumes nothing.
 use Prim.Native.Nat.{ℕ, _-_}
 use native.Mathlib.Omega.{arith}
@@ -41,18 +41,24 @@ put-record-requires c κs =
 add-k : tie.Need-add-k Inv-loop μ-loop
 add-k c =
     let i = c .before .before .before .before .before .before .before .before .loop .inv in
-    let e = sym (c .before .before .before .before .before .before .before .get-next .ensures) ∙ c .before .before .before .before .before .t .given .1 in
+    let e =
+    sym (c .before .before .before .before .before .before .before .get-next .ensures)
+    ∙ c .before .before .before .before .before .t .given .1 in
     omega (arith, fits _ _ _ (i .0) _ _ (i .1) _ _ e (i .2))
 
 loop-less : tie.Need-loop-less Inv-loop μ-loop
 loop-less c =
-    let e = sym (c .before .before .before .before .before .before .before .get-next .ensures) ∙ c .before .before .before .before .before .t .given .1 in
+    let e =
+    sym (c .before .before .before .before .before .before .before .get-next .ensures)
+    ∙ c .before .before .before .before .before .t .given .1 in
     omega (arith, type-ends _ _ _ _ e)
 
 loop-again : tie.Need-loop-again Inv-loop μ-loop
 loop-again c =
     let i = c .before .before .before .before .before .before .before .before .loop .inv in
-    let e = sym (c .before .before .before .before .before .before .before .get-next .ensures) ∙ c .before .before .before .before .before .t .given .1 in
+    let e =
+    sym (c .before .before .before .before .before .before .before .get-next .ensures)
+    ∙ c .before .before .before .before .before .t .given .1 in
     let ends = type-ends _ _ _ _ e in
     let same = c .before .numbers .given in (
       i .0 - 1,
@@ -81,7 +87,9 @@ same-length c = c .before .numbers2 .given ∙ c .before .before .before .before
 returns : tie.Need-returns Inv-loop μ-loop
 returns c =
     let i = c .before .before .before .before .before .before .before .loop .inv in
-    let e = sym (c .before .before .before .before .before .before .get-next .ensures) ∙ c .before .before .before .before .enum-told .given .1 in
+    let e =
+    sym (c .before .before .before .before .before .before .get-next .ensures)
+    ∙ c .before .before .before .before .enum-told .given .1 in
     c .before .before .fill-return .ensures ∙ at-close _ _ _ (i .0) _ _ (i .1) e (i .2) .from-here
 
 enum-known-r : tie.Need-enum-known-r Inv-loop μ-loop

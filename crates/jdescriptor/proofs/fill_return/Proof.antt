@@ -32,8 +32,11 @@ same-length c = search needs
 returns : tie.Need-returns
 unfolding numbersOf
 returns c =
-    let e = sym (c .before .before .before .before .before .before .before .get-next .ensures) ∙ c .before .before .before .before .before .t .given .1 in
-    rw (return-is _ _ (c .before .before .before .before .before .before .before .before .before .before .pre .0) _ _ e) (c .before .before .put-record .ensures)
+    let e =
+    sym (c .before .before .before .before .before .before .before .get-next .ensures)
+    ∙ c .before .before .before .before .before .t .given .1 in
+    rw (return-is _ _ (c .before .before .before .before .before .before .before .before .before .before .pre .0) _ _ e)
+    (c .before .before .put-record .ensures)
 
 returns-2 : tie.Need-returns-2
 returns-2 c =

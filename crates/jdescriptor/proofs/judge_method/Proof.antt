@@ -1,4 +1,4 @@
--- `jdescriptor::judge_method` meets its contract. The loop's invariant: what is judged from here, behind the types so far, is the whole.
+-- `jdescriptor::judge_method` meets its contract. Invariant: what is judged from here, behind the types so far, is the whole.
 -- Assumes nothing.
 use Prim.Native.Nat.{ℕ, _-_}
 use native.Mathlib.Omega.{arith}
@@ -7,7 +7,8 @@ use lib.ListN.{length}
 use borrow.Author.Needs.{needs}
 use borrow.Author.Tests.{eq-eqb, ne-eqb}
 use Rattle.jdescriptor.specs.Answer.{judged}
-use Rattle.jdescriptor.proofs.Judging.{Judging, no-text, not-opened, start, closed, stopped, voided, more, type-ends, close-inside}
+use Rattle.jdescriptor.proofs.Judging.{Judging, no-text, not-opened, start, closed, stopped, voided, more, type-ends}
+use Rattle.jdescriptor.proofs.Judging.{close-inside}
 use Rattle.jdescriptor.proofs.judge_method.Statement.{statement}
 use Rattle.jdescriptor.proofs.judge_method.Tie as tie
 

@@ -36,8 +36,11 @@ same-length c = search needs
 returns-2 : tie.Need-returns-2
 returns-2 c =
     let a = c .before .before .before .before .before .before .before .before .before .before .before .args in
-    let e = sym (c .before .before .before .before .before .before .before .before .judge-method .ensures) ∙ c .before .before .before .before .before .before .count .given .1 in
-    fitting (methodReading (a .text .now)) _ (a .numbers .now) _ e (c .before .before .before .before .if1 .left) (c .before .before .fill-method .ensures)
+    let e =
+    sym (c .before .before .before .before .before .before .before .before .judge-method .ensures)
+    ∙ c .before .before .before .before .before .before .count .given .1 in
+    fitting (methodReading (a .text .now)) _ (a .numbers .now) _ e (c .before .before .before .before .if1 .left)
+    (c .before .before .fill-method .ensures)
 
 returns-3 : tie.Need-returns-3
 returns-3 c =

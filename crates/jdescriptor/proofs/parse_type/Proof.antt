@@ -43,9 +43,20 @@ same-length c = search needs
 returns-3 : tie.Need-returns-3
 unfolding typeReading answer written numbersOf
 returns-3 c =
-    let e = sym (c .before .before .before .before .before .before .before .before .before .get-next .ensures) ∙ c .before .before .before .before .before .before .before .t .given .1 in (
-      rw (e, le-ltb _ _ (c .before .before .before .before .before .if1 .left), le-ltb _ _ (c .before .before .before .before .if2 .left)),
-      rw (e, le-ltb _ _ (c .before .before .before .before .before .if1 .left), le-ltb _ _ (c .before .before .before .before .if2 .left)) (c .before .before .put-record .ensures),
+    let e =
+    sym (c .before .before .before .before .before .before .before .before .before .get-next .ensures)
+    ∙ c .before .before .before .before .before .before .before .t .given .1 in (
+      rw (
+        e,
+        le-ltb _ _ (c .before .before .before .before .before .if1 .left),
+        le-ltb _ _ (c .before .before .before .before .if2 .left),
+      ),
+      rw (
+        e,
+        le-ltb _ _ (c .before .before .before .before .before .if1 .left),
+        le-ltb _ _ (c .before .before .before .before .if2 .left),
+      )
+          (c .before .before .put-record .ensures),
     )
 
 returns-4 : tie.Need-returns-4

@@ -20,7 +20,8 @@ element-at-requires c κs = search needs
 
 returns-2 : tie.Need-returns-2
 returns-2 c =
-    rw (type-behind _ _ _ (c .before .before .after-brackets .ensures), le-ltb _ _ (c .before .if1 .left)) (c .element-at .ensures)
+    rw (type-behind _ _ _ (c .before .before .after-brackets .ensures), le-ltb _ _ (c .before .if1 .left))
+    (c .element-at .ensures)
 
 pub get-next-spec : {M : Type 1} → statement M
 get-next-spec =
