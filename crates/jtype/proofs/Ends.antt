@@ -72,7 +72,7 @@ element-within depth (x ∷ rest) at end h =
     let step : (at < at + 1) × (at + 1 ≤ end) = (omega arith, omega arith) in
     chosen In (eqb x 76) _ _
     (class-within depth at end (semicolonIn rest (at + 1)) (semicolon-in-within rest (at + 1) end (omega arith)))
-    (chosen In (eqb x 41) _ _ (chosen In (ltb 0 depth) (Refused _) Close tt (omega arith))
+    (chosen In (eqb x 41) _ _ (chosen In (eqb depth 0) Close (Refused _) (omega arith) tt)
     (chosen In (eqb x 86) _ _ (chosen In (ltb 0 depth) (Refused _) (Is _ (at + 1)) tt step)
     (chosen In (isBase x) (Is _ (at + 1)) (Refused _) step tt)))
 

@@ -53,7 +53,7 @@ pub element-next :
     (text : List ℕ) (depth at : ℕ) → at < length text →
     element depth (drop at text) at ≡
     pick (eqb (getD text at 0) 76) (classType depth (at + 1) (semicolonFrom text (at + 1)))
-    (pick (eqb (getD text at 0) 41) (pick (ltb 0 depth) (Refused CloseAfterBracket) Close)
+    (pick (eqb (getD text at 0) 41) (pick (eqb depth 0) Close (Refused CloseAfterBracket))
     (pick (eqb (getD text at 0) 86) (pick (ltb 0 depth) (Refused ArrayOfVoid) (unnamedType (getD text at 0) depth (at + 1)))
     (pick (isBase (getD text at 0)) (unnamedType (getD text at 0) depth (at + 1)) (Refused Unrecognised))))
 unfolding element semicolonFrom

@@ -52,7 +52,7 @@ unfoldable pub element : ℕ → List ℕ → ℕ → Next
 element depth [] at = Refused UnexpectedEnd
 element depth (x ∷ rest) at =
     pick (eqb x 76) (classType depth (at + 1) (semicolonIn rest (at + 1)))
-    (pick (eqb x 41) (pick (ltb 0 depth) (Refused CloseAfterBracket) Close)
+    (pick (eqb x 41) (pick (eqb depth 0) Close (Refused CloseAfterBracket))
     (pick (eqb x 86) (pick (ltb 0 depth) (Refused ArrayOfVoid) (unnamedType x depth (at + 1)))
     (pick (isBase x) (unnamedType x depth (at + 1)) (Refused Unrecognised))))
 

@@ -142,10 +142,10 @@ fn element_at(text: &[u8], depth: usize, at: usize) -> Next
         return class_type(text, depth, at + 1);
     }
     if letter == b')' {
-        if 0 < depth {
-            return Next::Refused(Refusal::CloseAfterBracket);
+        if depth == 0 {
+            return Next::Close;
         }
-        return Next::Close;
+        return Next::Refused(Refusal::CloseAfterBracket);
     }
     if letter == b'V' {
         if 0 < depth {

@@ -8,10 +8,16 @@ use Rattle.bytecode.specs.Length.{tableEntries, lookupPairs, tableBytes, lookup
 use Rattle.leader.specs.Greatest.{upTo, greatest}
 use Rattle.leader.specs.Scan.{scanFrom, instructions, scanCount, leadersOf, answered, blockLeader}
 use Rattle.leader.specs.Targets.{kindOf, target, entryTargets, switchTargets, leadersAt}
+use Rattle.jtype.specs.OneType.{brackets, isBase, unnamedType, element, typeIn, typeAt}
+use Rattle.jtype.specs.Refusal.{numberOf}
+use Rattle.jdescriptor.specs.Answer.{answer, numbered}
+use Rattle.jdescriptor.specs.Reading.{typeReading, returnAt, parametersAt, methodReading}
 use Rattle.rows.specs.Rows.{AllHold, rows}
 
 pub rows-hold : AllHold rows
 unfolding rows
     lengthOf within bytesOf formatOf wideBytes tableBytes tableEntries lookupBytes lookupPairs i16At i32At lifted u32At u16At
     blockLeader answered instructions scanFrom scanCount leadersOf leadersAt kindOf target entryTargets switchTargets greatest upTo
-rows-hold = (refl, (refl, (refl, (refl, (refl, (refl, (refl, (refl, (refl, tt)))))))))
+    numbered numberOf answer typeReading methodReading parametersAt returnAt typeAt typeIn brackets element isBase unnamedType
+rows-hold =
+    (refl, (refl, (refl, (refl, (refl, (refl, (refl, (refl, (refl, (refl, (refl, (refl, (refl, tt)))))))))))))

@@ -2,23 +2,31 @@
 -- Assumes nothing.
 use Prim.Native.Nat.{ℕ}
 use mathlib.Core.Path.{_≡_}
-use mathlib.Core.List.{List, [], _∷_}
+use mathlib.Core.List.{List, [], _∷_, _++_}
+use lib.ListN.{replicate}
 use Rattle.bytecode.specs.Length.{lengthOf}
 use Rattle.bytecode.specs.declared.Measure.{Measure}
 use Rattle.bytecode.specs.declared.Measure.the-variants.{Length, NoLength}
 use Rattle.leader.specs.Scan.{blockLeader}
 use Rattle.leader.specs.declared.Scan.{Scan}
 use Rattle.leader.specs.declared.Scan.the-variants.{Leader}
+use Rattle.jdescriptor.specs.Answer.{answer, numbered}
+use Rattle.jdescriptor.specs.Reading.{typeReading, methodReading}
 
 pub data Row : Type 0 where
   -- a code, an index of it, and what measuring there answers
   measures : List ℕ → ℕ → Measure → Row
   -- a code, a fault, and what scanning answers
   leads : List ℕ → ℕ → Scan → Row
+  -- a text, the room for numbers, and what the strict reader of a method, or of a type, answers in document 01's numbers
+  methodReads : List ℕ → ℕ → List ℕ → Row
+  typeReads : List ℕ → ℕ → List ℕ → Row
 
 abbrev pub Holds : Row → Type 0
 Holds (measures code pc answer) = lengthOf code pc ≡ answer
 Holds (leads code fault answer) = blockLeader lengthOf [] code fault ≡ answer
+Holds (methodReads text room told) = numbered (answer (methodReading text) room) ≡ told
+Holds (typeReads text room told) = numbered (answer (typeReading text) room) ≡ told
 
 abbrev pub AllHold : List Row → Type 0
 AllHold [] = Unit
@@ -39,4 +47,9 @@ rows =
     leads (0x00 ∷ 0x00 ∷ 0x2a ∷ 0xbe ∷ 0x57 ∷ 0xa7 ∷ 0xff ∷ 0xfe ∷ []) 3 (Leader 3 6) ∷
     -- "code a7 ff ff b1, fault 3: leader 3."
     leads (0xa7 ∷ 0xff ∷ 0xff ∷ 0xb1 ∷ []) 3 (Leader 3 2) ∷
+    -- "strict `()` is 1, `())` is 12, 255 `[` then I passes, 256 is 2."
+    methodReads (40 ∷ 41 ∷ []) 4 (1 ∷ []) ∷
+    methodReads (40 ∷ 41 ∷ 41 ∷ []) 4 (12 ∷ []) ∷
+    typeReads (replicate 255 91 ++ (73 ∷ [])) 4 (0 ∷ 1 ∷ []) ∷
+    typeReads (replicate 256 91 ++ (73 ∷ [])) 4 (2 ∷ []) ∷
     []

@@ -183,7 +183,8 @@ reads-wrong rest at MissingSemicolon (unended depth name few free e) =
     ap (λ (l : List ℕ). typeIn l at) e ∙ behind depth (76 ∷ name) at few (λ z. omega arith)
     ∙ rw (no-semicolon name (at + depth + 1) free)
 reads-wrong rest at CloseAfterBracket (closed depth more some few e) =
-    ap (λ (l : List ℕ). typeIn l at) e ∙ behind depth (41 ∷ more) at few (λ z. omega arith) ∙ rw (lt-ltb 0 depth some)
+    ap (λ (l : List ℕ). typeIn l at) e ∙ behind depth (41 ∷ more) at few (λ z. omega arith)
+    ∙ rw (ne-eqb depth 0 (λ z. omega arith))
 reads-wrong rest at ArrayOfVoid (voids depth more some few e) =
     ap (λ (l : List ℕ). typeIn l at) e ∙ behind depth (86 ∷ more) at few (λ z. omega arith) ∙ rw (lt-ltb 0 depth some)
 reads-wrong rest at Unrecognised (strange depth x more few s e) =

@@ -29,7 +29,7 @@ returns-3 c =
       element-next _ _ _ (c .before .before .before .before .if1 .left),
       ne-eqb _ _ (c .before .before .if2 .left),
       eq-eqb _ _ (c .before .if3 .taken),
-      lt-ltb _ _ (c .if4 .taken),
+      eq-eqb _ _ (c .if4 .taken),
     )
 
 returns-4 : tie.Need-returns-4
@@ -38,7 +38,7 @@ returns-4 c =
       element-next _ _ _ (c .before .before .before .before .if1 .left),
       ne-eqb _ _ (c .before .before .if2 .left),
       eq-eqb _ _ (c .before .if3 .taken),
-      le-ltb _ _ (c .if4 .left),
+      ne-eqb _ _ (c .if4 .left),
     )
 
 returns-5 : tie.Need-returns-5
