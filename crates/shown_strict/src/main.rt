@@ -1,0 +1,294 @@
+// Prints what the strict readers answer: every refusal, the examples in jdescriptor's comments, and every text of up to six
+// bytes over eight letters.
+//
+// The stored answers were made by running jdescriptor itself, built with empty stand-ins for the crates thiserror and serde.
+// Its error gave the number, by its text in document 01's table; its types gave the records, the place of a name being
+// counted from what its Display writes; 14 was added where four numbers a type exceed the room.
+use jdescriptor::Answer;
+use libc::STDOUT_FILENO;
+ghost use Prim.Native.Nat.{_≤_, _<_};
+
+const LETTERS: [u8; 8] = [b'(', b')', b'[', b';', b'I', b'L', b'V', b'a'];
+// A letter for each answer: 0 for types, then the refusals.
+const ANSWERS: [u8; 15] = [
+    b'0',
+    b'1',
+    b'2',
+    b'3',
+    b'4',
+    b'5',
+    b'6',
+    b'7',
+    b'8',
+    b'9',
+    b'a',
+    b'b',
+    b'c',
+    b'd',
+    b'e',
+];
+
+fn say(text: &[u8]) {
+    io::write_all(STDOUT_FILENO, text);
+}
+
+fn say_number(n: u64) {
+    io::print_decimal(STDOUT_FILENO, n);
+}
+
+fn say_numbers(numbers: &[u64]) {
+    let mut i = 0;
+    while i < numbers.len() {
+        say(b" ");
+        say_number(numbers[i]);
+        i += 1;
+    }
+}
+
+// Prints the answer and the whole buffer.
+fn show_answer(answer: Answer, numbers: &[u64]) {
+    match answer {
+        Answer::Types(count) => {
+            say(b": 0 ");
+            say_number(count as u64);
+        }
+        Answer::Refused(r) => {
+            say(b": ");
+            say_number(jtype::number_of(r));
+        }
+    }
+    say(b" |");
+    say_numbers(numbers);
+    say(b"\n");
+}
+
+fn show_type(text: &[u8], numbers: &mut [u64]) {
+    say(b"type ");
+    say(text);
+    let answer = jdescriptor::parse_type(text, numbers);
+    show_answer(answer, numbers);
+}
+
+fn show_method(text: &[u8], numbers: &mut [u64]) {
+    say(b"method ");
+    say(text);
+    let answer = jdescriptor::parse_method(text, numbers);
+    show_answer(answer, numbers);
+}
+
+// With room for three types. What is not written stays 7.
+fn one_type(text: &[u8]) {
+    let mut numbers = [7u64; 12];
+    show_type(text, &mut numbers);
+}
+
+fn one_method(text: &[u8]) {
+    let mut numbers = [7u64; 12];
+    show_method(text, &mut numbers);
+}
+
+fn types() {
+    one_type(b"");
+    one_type(b"[");
+    one_type(b")");
+    one_type(b")x");
+    one_type(b"II");
+    one_type(b"La;I");
+    one_type(b"L;");
+    one_type(b"[L;");
+    one_type(b"L");
+    one_type(b"La/b");
+    one_type(b"[)");
+    one_type(b"[V");
+    one_type(b"Q");
+    one_type(b"[Q");
+    one_type(b"V");
+    one_type(b"Z");
+    one_type(b"[[La/b;");
+    one_type(b"L[;");
+    one_type(b"Ljava/lang/String;");
+    let mut most = [b'['; 256];
+    most[255] = b'I';
+    one_type(&most);
+    let mut over = [b'['; 257];
+    over[256] = b'I';
+    one_type(&over);
+    one_type(&[b'['; 256]);
+}
+
+fn methods() {
+    one_method(b"");
+    one_method(b"x");
+    one_method(b"I");
+    one_method(b"(");
+    one_method(b"(I");
+    one_method(b"()");
+    one_method(b"([");
+    one_method(b"(V");
+    one_method(b"(IV)V");
+    one_method(b"())");
+    one_method(b"())V");
+    one_method(b"()VV");
+    one_method(b"(L;)V");
+    one_method(b"(La)V");
+    one_method(b"([)V");
+    one_method(b"([V)V");
+    one_method(b"(Q)V");
+    one_method(b"()[V");
+    one_method(b"()Q");
+    one_method(b"()La");
+    one_method(b"()V");
+    one_method(b"(La)J;)V");
+    one_method(b"(J[[La/b;)V");
+    one_method(b"([[[Ljava/lang/String;)[[[I");
+    one_method(b"(III)V");
+    one_method(b"(III)");
+}
+
+// Too little room, and a text that is wrong besides.
+fn without_room() {
+    let mut three = [7u64; 3];
+    show_type(b"I", &mut three);
+    show_type(b"Q", &mut three);
+    show_method(b"()V", &mut three);
+    show_method(b"()VV", &mut three);
+    let mut four = [7u64; 4];
+    show_type(b"I", &mut four);
+    let mut eight = [7u64; 8];
+    show_method(b"(I)V", &mut eight);
+    let mut seven = [7u64; 7];
+    show_method(b"(I)V", &mut seven);
+}
+
+// The text that stands at a number in the list of all texts of this length.
+fn spell(number: usize, text: &mut [u8]) {
+    let mut rest = number;
+    let mut i = text.len();
+    while 0 < i {
+        i -= 1;
+        text[i] = LETTERS[rest % 8];
+        rest /= 8;
+    }
+}
+
+// An answer as one number: the refusal's, or 15 and the count of types.
+fn told(answer: Answer) -> u64 {
+    match answer {
+        Answer::Types(count) => 15 + count as u64 % 1000,
+        Answer::Refused(r) => jtype::number_of(r),
+    }
+}
+
+fn told_type(text: &[u8], numbers: &mut [u64]) -> u64 {
+    told(jdescriptor::parse_type(text, numbers))
+}
+
+fn told_method(text: &[u8], numbers: &mut [u64]) -> u64 {
+    told(jdescriptor::parse_method(text, numbers))
+}
+
+// 0 where types were read, else a letter for the refusal.
+fn answer_letter(n: u64) -> u8 {
+    if n < 15 { ANSWERS[n as usize] } else { b'0' }
+}
+
+fn type_letter(text: &[u8]) -> u8 {
+    let mut numbers = [7u64; 12];
+    answer_letter(told_type(text, &mut numbers))
+}
+
+fn method_letter(text: &[u8]) -> u8 {
+    let mut numbers = [7u64; 12];
+    answer_letter(told_method(text, &mut numbers))
+}
+
+// A line for the eight texts that begin with the same bytes and have one more: the type reader's answers, then the method's.
+fn row(begin: usize, beginning: &mut [u8], text: &mut [u8])
+    requires { ⌜ begin < 512 ⌝ }
+{
+    let mut line = [b' '; 18];
+    let mut k = 0;
+    while k < 8 {
+        spell(begin * 8 + k, text);
+        line[k] = type_letter(text);
+        line[9 + k] = method_letter(text);
+        k += 1;
+    }
+    line[17] = b'\n';
+    spell(begin, beginning);
+    say(beginning);
+    say(b" ");
+    say(&line);
+}
+
+fn rows(count: usize, beginning: &mut [u8], text: &mut [u8])
+    requires { ⌜ count ≤ 512 ⌝ }
+{
+    let mut begin = 0;
+    while begin < count {
+        row(begin, beginning, text);
+        begin += 1;
+    }
+}
+
+fn stir(h: u64, x: u64) -> u64 {
+    (h % 4_294_967_291 * 31 + x % 4_294_967_291) % 4_294_967_291
+}
+
+fn stir_all(h: u64, numbers: &[u64]) -> u64 {
+    let mut mixed = h;
+    let mut i = 0;
+    while i < numbers.len() {
+        mixed = stir(mixed, numbers[i]);
+        i += 1;
+    }
+    mixed
+}
+
+// One number for what both readers answer and write on the texts from one on.
+fn digest(from: usize, count: usize, text: &mut [u8]) -> u64
+    requires { ⌜ (from < 1000000) × (count < 1000000) ⌝ }
+{
+    let mut mixed: u64 = 0;
+    let mut k = 0;
+    while k < count {
+        spell(from + k, text);
+        let mut one = [7u64; 12];
+        mixed = stir(mixed, told_type(text, &mut one));
+        mixed = stir_all(mixed, &one);
+        let mut other = [7u64; 12];
+        mixed = stir(mixed, told_method(text, &mut other));
+        mixed = stir_all(mixed, &other);
+        k += 1;
+    }
+    mixed
+}
+
+// A line for the texts of five and of six bytes that begin with the same three.
+fn digests() {
+    let mut beginning = [0u8; 3];
+    let mut five = [0u8; 5];
+    let mut six = [0u8; 6];
+    let mut begin = 0;
+    while begin < 512 {
+        spell(begin, &mut beginning);
+        say(&beginning);
+        say(b" ");
+        say_number(digest(begin * 64, 64, &mut five));
+        say(b" ");
+        say_number(digest(begin * 512, 512, &mut six));
+        say(b"\n");
+        begin += 1;
+    }
+}
+
+fn main() {
+    types();
+    methods();
+    without_room();
+    rows(1, &mut [0u8; 0], &mut [0u8; 1]);
+    rows(8, &mut [0u8; 1], &mut [0u8; 2]);
+    rows(64, &mut [0u8; 2], &mut [0u8; 3]);
+    rows(512, &mut [0u8; 3], &mut [0u8; 4]);
+    digests();
+}
