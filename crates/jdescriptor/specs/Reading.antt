@@ -1,5 +1,6 @@
 -- A whole type and a whole method (document 01, "Descriptors", strict): the types that a text is read as, or the first
 -- refusal that is met from the left.
+-- The bytes: 40 `(`, 86 `V`.
 -- Assumes nothing.
 use Prim.Native.Nat.{ℕ, zero, suc, _+_}
 use mathlib.Core.List.{List, [], _∷_}

@@ -80,7 +80,7 @@ fn judge_method(text: &[u8]) -> Answer
     loop {
         match jtype::get_next(text, at) {
             Next::Is(t, end) => {
-                if t.letter == 86 {
+                if t.letter == TypeRecord::VOID {
                     return Answer::Refused(Refusal::VoidParameter);
                 }
                 count += 1;

@@ -1,5 +1,6 @@
 -- One type of a strict descriptor (document 01, "Descriptors"): what stands at a place of a text where a type is due.
 -- A text is read from its left, so the first refusal that is met is the answer.
+-- The bytes: 40 `(`, 41 `)`, 59 `;`, 76 `L`, 86 `V`, 91 `[`.
 -- Assumes nothing.
 use Prim.Native.Nat.{ℕ, suc, _+_, _-_}
 use mathlib.Core.Bool.{Bool}

@@ -33,6 +33,12 @@ pub struct TypeRecord {
     pub size: u64,
 }
 
+impl TypeRecord {
+    pub const CLASS: u64 = 76;
+
+    pub const VOID: u64 = 86;
+}
+
 // What reading a type at a place finds.
 pub enum Next {
     // A type, and the place after it.
@@ -122,7 +128,7 @@ fn class_type(text: &[u8], depth: usize, from: usize) -> Next
     }
     Next::Is(
         TypeRecord {
-            letter: 76,
+            letter: TypeRecord::CLASS,
             dimensions: depth as u64,
             start: from as u64,
             size: (end - from) as u64,

@@ -14,6 +14,7 @@ use Rattle.basics.specs.Choice.{pick}
 use Rattle.jvms.specs.Descriptor.{FieldType, ReturnType, void, typed, MethodType}
 use Rattle.jvms.specs.Descriptor.{render, renderReturn, renderAll, renderMethod}
 use Rattle.jvms.specs.Descriptor.{WellFormed, AllWellFormed, WellFormedReturn, WellFormedMethod}
+use Rattle.jvms.proofs.Rendering.{render-method-injective}
 use Rattle.jtype.specs.Refusal.{numberOf}
 use Rattle.jtype.specs.declared.Refusal.{Refusal}
 use Rattle.jtype.specs.declared.Refusal.the-variants.{LoneClose, TrailingAfterType, MissingOpening, VoidParameter}
@@ -25,7 +26,7 @@ use Rattle.jdescriptor.specs.declared.Answer.the-variants.{Types, Refused}
 use Rattle.strict.specs.Declared.{wrongType, lone, typeTrails, unopened, wrongParameter}
 use Rattle.strict.specs.Declared.{voidParameter, wrongReturn, secondClose, methodTrails, TypeMeans, MethodMeans}
 use Rattle.strict.specs.Declared.{Outcome, fits, tooSmall, refuses, Declared, MethodDeclared, TypeDeclared}
-use Rattle.strict.specs.Declared.{ExactlyTheGrammar, ExactlyAType, OneNumber}
+use Rattle.strict.specs.Declared.{ExactlyTheGrammar, ExactlyAType, OneTree, OneNumber}
 use Rattle.strict.specs.Records.{returnRecord, methodRecords}
 use Rattle.strict.proofs.Standing.{Standing, read, close, wrong, standing}
 use Rattle.strict.proofs.Whole.{some-bytes, type-only, method-only}
@@ -221,6 +222,26 @@ exactly-a-type =
       accepted = λ text are. type-accepted-as text (typeReading text) are (type-means text (typeReading text) refl);
       taken = λ t w. type-taken (typed t) w;
       takenVoid = type-taken void tt;
+    }
+
+-- a return descriptor behind `()` is a method descriptor
+return-tree : (t u : ReturnType) → WellFormedReturn t → WellFormedReturn u → renderReturn t ≡ renderReturn u → t ≡ u
+unfolding renderMethod renderAll
+return-tree t u w v e =
+    let behind : ReturnType → MethodType = λ r. record { parameters = []; result = r } in
+    let same = render-method-injective (behind t) (behind u)
+    (record { parameters = tt; result = w }) (record { parameters = tt; result = v }) (ap (λ (l : List ℕ). 40 ∷ (41 ∷ l)) e) in
+    ap (λ (m : MethodType). m .result) same
+
+pub one-tree : OneTree
+one-tree =
+    record {
+      ofMethod =
+          λ text ts us a b.
+          render-method-injective (a .tree) (b .tree) (a .wellFormed) (b .wellFormed) (sym (a .isWritten) ∙ b .isWritten);
+      ofType =
+          λ text ts us a b.
+          return-tree (a .tree) (b .tree) (a .wellFormed) (b .wellFormed) (sym (a .isWritten) ∙ b .isWritten);
     }
 
 same-refusal : (R : Reading) (r q : Refusal) → R ≡ refused r → R ≡ refused q → numberOf r ≡ numberOf q

@@ -1,21 +1,22 @@
 -- The strict readers, declared (document 01, "Descriptors", strict): which texts are accepted, as JVMS 4.3's grammar writes
 -- them; what is wrong with every other text, at the first place from the left where it goes wrong; and what an answer means.
 -- The statements at the end are proved in proofs/ of this crate.
+-- The bytes: 40 `(`, 41 `)`, 59 `;`, 76 `L`, 86 `V`, 91 `[`.
 -- Assumes nothing.
 use Prim.Native.Nat.{ℕ, _+_, _*_, _≤_, _<_}
 use mathlib.Core.Path.{_≡_}
 use mathlib.Core.List.{List, [], _∷_, _++_}
 use mathlib.Core.Logic.{_⊎_}
 use lib.ListN.{length, replicate}
-use Rattle.jvms.specs.Descriptor.{BaseType, FieldType, ReturnType, MethodType, letter, render, renderAll, renderReturn}
-use Rattle.jvms.specs.Descriptor.{renderMethod}
+use Rattle.jvms.specs.Descriptor.{BaseType, FieldType, ReturnType, MethodType}
+use Rattle.jvms.specs.Descriptor.{letter, render, renderAll, renderReturn, renderMethod}
 use Rattle.jvms.specs.Descriptor.{NoSemicolon, WellFormed, AllWellFormed, WellFormedReturn, WellFormedMethod}
 use Rattle.jtype.specs.Refusal.{numberOf}
 use Rattle.jtype.specs.declared.Refusal.{Refusal}
 use Rattle.jtype.specs.declared.Refusal.the-variants.{UnexpectedEnd, TooManyDimensions, LoneClose, TrailingAfterType}
 use Rattle.jtype.specs.declared.Refusal.the-variants.{EmptyClassName, MissingSemicolon, CloseAfterBracket, ArrayOfVoid}
-use Rattle.jtype.specs.declared.Refusal.the-variants.{Unrecognised}
-use Rattle.jtype.specs.declared.Refusal.the-variants.{MissingOpening, VoidParameter, MissingReturn, TrailingAfterMethod, NoRoom}
+use Rattle.jtype.specs.declared.Refusal.the-variants.{Unrecognised, MissingOpening, VoidParameter, MissingReturn}
+use Rattle.jtype.specs.declared.Refusal.the-variants.{TrailingAfterMethod, NoRoom}
 use Rattle.jtype.specs.declared.TypeRecord.{TypeRecord}
 use Rattle.jdescriptor.specs.Reading.{Reading, types, refused, typeReading, methodReading}
 use Rattle.jdescriptor.specs.Answer.{numbersOf, splice, answer, written, IsTypes}
@@ -29,7 +30,7 @@ use Rattle.strict.specs.Records.{methodRecords, returnRecord, spelled, s
 abbrev pub bracketed : ℕ → List ℕ → List ℕ
 bracketed depth rest = replicate depth 91 ++ rest
 
--- a byte that neither begins a type nor is `V` or `)`
+-- a byte that begins no type and is neither `V` nor `)`
 pub record Strange (x : ℕ) : Type 0 where
   pub bracket : x ≡ 91 → ⊥
   pub class : x ≡ 76 → ⊥
@@ -62,7 +63,8 @@ pub data WrongType (rest : List ℕ) : Refusal → Type 0 where
 
 -- ---- what is wrong with a whole text
 
--- a text that is to be one type. What was read whole is a type.
+-- A text that is to be one type, and the refusal for the first place from the left where it goes wrong. What stands before
+-- that place was read whole: nothing, or a type.
 pub data WrongAlone (text : List ℕ) : Refusal → Type 0 where
   wrongType : {r : Refusal} → WrongType text r → WrongAlone text r
   -- "3 lone `)` as a type"
@@ -76,7 +78,8 @@ abbrev pub Unopened : List ℕ → Type 0
 Unopened [] = Unit {0}
 Unopened (x ∷ more) = x ≡ 40 → ⊥
 
--- a text that is to be a method. What was read whole is `(` and parameters, or these, `)` and perhaps the return.
+-- A text that is to be a method, likewise. What was read whole is nothing; or `(` and parameters; or these, `)` and perhaps
+-- the return.
 pub data WrongMethod (text : List ℕ) : Refusal → Type 0 where
   -- "10 no opening `(`"
   unopened : Unopened text → WrongMethod text MissingOpening
@@ -163,6 +166,11 @@ pub record ExactlyAType : Type 0 where
       (text ≡ 86 ∷ []) ⊎ ((t : FieldType) × WellFormed t × (text ≡ render t))
   pub taken : (t : FieldType) → WellFormed t → IsTypes (typeReading (render t))
   pub takenVoid : IsTypes (typeReading (86 ∷ []))
+
+-- JVMS 4.3 writes a text from one tree only, so "the tree" of an accepted text is one
+pub record OneTree : Type 0 where
+  pub ofMethod : (text : List ℕ) (ts us : List TypeRecord) (a : MethodText text ts) (b : MethodText text us) → a .tree ≡ b .tree
+  pub ofType : (text : List ℕ) (ts us : List TypeRecord) (a : TypeText text ts) (b : TypeText text us) → a .tree ≡ b .tree
 
 -- at most one number is declared for a text
 pub record OneNumber : Type 0 where

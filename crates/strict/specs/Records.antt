@@ -1,5 +1,6 @@
 -- The records of a grammar tree (document 01: "four numbers a type, in order, the return last .. base letter, dimensions,
 -- name start in the descriptor, name length (0 and 0 without a name)"), and the text that records give back.
+-- The bytes: 40 `(`, 41 `)`, 59 `;`, 76 `L`, 86 `V`, 91 `[`.
 -- Assumes nothing.
 use Prim.Native.Nat.{ℕ, _+_}
 use mathlib.Core.List.{List, [], _∷_, _++_}
