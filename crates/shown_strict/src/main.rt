@@ -87,26 +87,33 @@ fn one_method(text: &[u8]) {
     show_method(text, &mut numbers);
 }
 
-fn types() {
-    one_type(b"");
-    one_type(b"[");
-    one_type(b")");
-    one_type(b")x");
-    one_type(b"II");
-    one_type(b"La;I");
-    one_type(b"L;");
-    one_type(b"[L;");
-    one_type(b"L");
-    one_type(b"La/b");
-    one_type(b"[)");
-    one_type(b"[V");
-    one_type(b"Q");
-    one_type(b"[Q");
-    one_type(b"V");
-    one_type(b"Z");
-    one_type(b"[[La/b;");
-    one_type(b"L[;");
-    one_type(b"Ljava/lang/String;");
+// Each text ends with a newline.
+fn each_type(texts: &[u8]) {
+    let mut from = 0;
+    let mut i = 0;
+    while i < texts.len() {
+        if texts[i] == b'\n' {
+            one_type(&texts[from..i]);
+            from = i + 1;
+        }
+        i += 1;
+    }
+}
+
+fn each_method(texts: &[u8]) {
+    let mut from = 0;
+    let mut i = 0;
+    while i < texts.len() {
+        if texts[i] == b'\n' {
+            one_method(&texts[from..i]);
+            from = i + 1;
+        }
+        i += 1;
+    }
+}
+
+// 255 dimensions, then 256, with a base type and without.
+fn deep_types() {
     let mut most = [b'['; 256];
     most[255] = b'I';
     one_type(&most);
@@ -114,35 +121,6 @@ fn types() {
     over[256] = b'I';
     one_type(&over);
     one_type(&[b'['; 256]);
-}
-
-fn methods() {
-    one_method(b"");
-    one_method(b"x");
-    one_method(b"I");
-    one_method(b"(");
-    one_method(b"(I");
-    one_method(b"()");
-    one_method(b"([");
-    one_method(b"(V");
-    one_method(b"(IV)V");
-    one_method(b"())");
-    one_method(b"())V");
-    one_method(b"()VV");
-    one_method(b"(L;)V");
-    one_method(b"(La)V");
-    one_method(b"([)V");
-    one_method(b"([V)V");
-    one_method(b"(Q)V");
-    one_method(b"()[V");
-    one_method(b"()Q");
-    one_method(b"()La");
-    one_method(b"()V");
-    one_method(b"(La)J;)V");
-    one_method(b"(J[[La/b;)V");
-    one_method(b"([[[Ljava/lang/String;)[[[I");
-    one_method(b"(III)V");
-    one_method(b"(III)");
 }
 
 // Too little room, and a text that is wrong besides.
@@ -283,8 +261,16 @@ fn digests() {
 }
 
 fn main() {
-    types();
-    methods();
+    each_type(
+        b"\n[\n)\n)x\nII\nLa;I\nL;\n[L;\nL\nLa/b\n[)\n[V\nQ\n[Q\nV\nZ\n[[La/b;\nL[;\nLjava/lang/String;\n",
+    );
+    deep_types();
+    each_method(
+        b"\nx\nI\n(\n(I\n()\n([\n(V\n(IV)V\n())\n())V\n()VV\n(L;)V\n(La)V\n([)V\n([V)V\n(Q)V\n",
+    );
+    each_method(
+        b"()[V\n()Q\n()La\n()V\n(La)J;)V\n(J[[La/b;)V\n([[[Ljava/lang/String;)[[[I\n(III)V\n(III)\n",
+    );
     without_room();
     rows(1, &mut [0u8; 0], &mut [0u8; 1]);
     rows(8, &mut [0u8; 1], &mut [0u8; 2]);
