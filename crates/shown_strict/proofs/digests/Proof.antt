@@ -20,19 +20,19 @@ slice-aggregate-spell : tie.Need-slice-aggregate-spell Inv-loop μ-loop
 slice-aggregate-spell c = search needs
 
 spell-requires : tie.Need-spell-requires Inv-loop μ-loop
-spell-requires c κs = search needs
+spell-requires c κs = tt
 
 slice-aggregate-say : tie.Need-slice-aggregate-say Inv-loop μ-loop
 slice-aggregate-say c = search needs
 
 say-requires : tie.Need-say-requires Inv-loop μ-loop
-say-requires c κs = search needs
+say-requires c κs = tt
 
 slice-aggregate-say-2 : tie.Need-slice-aggregate-say-2 Inv-loop μ-loop
 slice-aggregate-say-2 c = search needs
 
 say-requires-2 : tie.Need-say-requires-2 Inv-loop μ-loop
-say-requires-2 c κs = search needs
+say-requires-2 c κs = tt
 
 mul-digest : tie.Need-mul-digest Inv-loop μ-loop
 mul-digest c = search needs
@@ -44,13 +44,13 @@ digest-requires : tie.Need-digest-requires Inv-loop μ-loop
 digest-requires c κs = search needs
 
 say-number-requires : tie.Need-say-number-requires Inv-loop μ-loop
-say-number-requires c κs = search needs
+say-number-requires c κs = tt
 
 slice-aggregate-say-3 : tie.Need-slice-aggregate-say-3 Inv-loop μ-loop
 slice-aggregate-say-3 c = search needs
 
 say-requires-3 : tie.Need-say-requires-3 Inv-loop μ-loop
-say-requires-3 c κs = search needs
+say-requires-3 c κs = tt
 
 mul-digest-2 : tie.Need-mul-digest-2 Inv-loop μ-loop
 mul-digest-2 c = search needs
@@ -62,13 +62,13 @@ digest-requires-2 : tie.Need-digest-requires-2 Inv-loop μ-loop
 digest-requires-2 c κs = search needs
 
 say-number-requires-2 : tie.Need-say-number-requires-2 Inv-loop μ-loop
-say-number-requires-2 c κs = search needs
+say-number-requires-2 c κs = tt
 
 slice-aggregate-say-4 : tie.Need-slice-aggregate-say-4 Inv-loop μ-loop
 slice-aggregate-say-4 c = search needs
 
 say-requires-4 : tie.Need-say-requires-4 Inv-loop μ-loop
-say-requires-4 c κs = search needs
+say-requires-4 c κs = tt
 
 add-begin : tie.Need-add-begin Inv-loop μ-loop
 add-begin c = search needs

@@ -30,7 +30,7 @@ part-one-method-end : tie.Need-part-one-method-end Inv-loop μ-loop
 part-one-method-end c = search needs
 
 one-method-requires : tie.Need-one-method-requires Inv-loop μ-loop
-one-method-requires c κs = search needs
+one-method-requires c κs = tt
 
 add-from : tie.Need-add-from Inv-loop μ-loop
 add-from c = search needs

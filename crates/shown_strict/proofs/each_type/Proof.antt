@@ -30,7 +30,7 @@ part-one-type-end : tie.Need-part-one-type-end Inv-loop μ-loop
 part-one-type-end c = search needs
 
 one-type-requires : tie.Need-one-type-requires Inv-loop μ-loop
-one-type-requires c κs = search needs
+one-type-requires c κs = tt
 
 add-from : tie.Need-add-from Inv-loop μ-loop
 add-from c = search needs

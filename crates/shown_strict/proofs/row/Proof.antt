@@ -23,16 +23,16 @@ add-spell : tie.Need-add-spell Inv-loop μ-loop
 add-spell c = search needs
 
 spell-requires : tie.Need-spell-requires Inv-loop μ-loop
-spell-requires c κs = search needs
+spell-requires c κs = tt
 
 type-letter-requires : tie.Need-type-letter-requires Inv-loop μ-loop
-type-letter-requires c κs = search needs
+type-letter-requires c κs = tt
 
 array-write-line : tie.Need-array-write-line Inv-loop μ-loop
 array-write-line c = search needs
 
 method-letter-requires : tie.Need-method-letter-requires Inv-loop μ-loop
-method-letter-requires c κs = search needs
+method-letter-requires c κs = tt
 
 add-line : tie.Need-add-line Inv-loop μ-loop
 add-line c = search needs
@@ -53,22 +53,22 @@ array-write-line-3 : tie.Need-array-write-line-3 Inv-loop μ-loop
 array-write-line-3 c = search needs
 
 spell-requires-2 : tie.Need-spell-requires-2 Inv-loop μ-loop
-spell-requires-2 c κs = search needs
+spell-requires-2 c κs = tt
 
 say-requires : tie.Need-say-requires Inv-loop μ-loop
-say-requires c κs = search needs
+say-requires c κs = tt
 
 slice-aggregate-say : tie.Need-slice-aggregate-say Inv-loop μ-loop
 slice-aggregate-say c = search needs
 
 say-requires-2 : tie.Need-say-requires-2 Inv-loop μ-loop
-say-requires-2 c κs = search needs
+say-requires-2 c κs = tt
 
 slice-aggregate-say-2 : tie.Need-slice-aggregate-say-2 Inv-loop μ-loop
 slice-aggregate-say-2 c = search needs
 
 say-requires-3 : tie.Need-say-requires-3 Inv-loop μ-loop
-say-requires-3 c κs = search needs
+say-requires-3 c κs = tt
 
 same-length : tie.Need-same-length Inv-loop μ-loop
 same-length c = search needs

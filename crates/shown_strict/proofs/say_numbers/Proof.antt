@@ -19,7 +19,7 @@ slice-aggregate-say : tie.Need-slice-aggregate-say Inv-loop μ-loop
 slice-aggregate-say c = search needs
 
 say-requires : tie.Need-say-requires Inv-loop μ-loop
-say-requires c κs = search needs
+say-requires c κs = tt
 
 mul-say-number : tie.Need-mul-say-number Inv-loop μ-loop
 mul-say-number c = search needs
@@ -28,7 +28,7 @@ shared-slice-read-say-number : tie.Need-shared-slice-read-say-number Inv-loop μ
 shared-slice-read-say-number c = search needs
 
 say-number-requires : tie.Need-say-number-requires Inv-loop μ-loop
-say-number-requires c κs = search needs
+say-number-requires c κs = tt
 
 add-i : tie.Need-add-i Inv-loop μ-loop
 add-i c = search needs

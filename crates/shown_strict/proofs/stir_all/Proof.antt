@@ -22,7 +22,7 @@ shared-slice-read-stir : tie.Need-shared-slice-read-stir Inv-loop μ-loop
 shared-slice-read-stir c = search needs
 
 stir-requires : tie.Need-stir-requires Inv-loop μ-loop
-stir-requires c κs = search needs
+stir-requires c κs = tt
 
 add-i : tie.Need-add-i Inv-loop μ-loop
 add-i c = search needs
