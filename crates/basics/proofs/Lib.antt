@@ -1,4 +1,6 @@
 pub mod Bytes
+pub mod Choice
 pub mod Every
 pub mod Outcome
+pub mod Parts
 pub mod Table

@@ -2,19 +2,21 @@
 -- Assumes nothing.
 use Prim.Native.Nat.{ℕ, suc, _+_, _-_, _*_, _≤_}
 use native.Mathlib.Omega.{arith}
-use mathlib.Core.Path.{_≡_, refl, _∙_, sym, ap}
+use mathlib.Core.Path.{_≡_, refl, _∙_, ap}
 use mathlib.Core.Bool.{Bool, true, false}
-use mathlib.Core.List.{List, [], _∷_, _++_, append-assoc}
+use mathlib.Core.List.{List, [], _∷_, append-assoc}
 use lib.Dec.{eqb, ltb}
-use lib.ListN.{length, set, take, drop, length-append}
-use lib.Seq.{sets-eq, take-at, length-take-le, drop-append-add, drop-drop}
+use lib.ListN.{length, set, take, drop}
+use lib.Seq.{sets-eq}
+use Rattle.basics.specs.Parts.{splice}
+use Rattle.basics.proofs.Parts.{splice-more}
 use Rattle.jtype.specs.OneType.{typeAt}
 use Rattle.jtype.specs.declared.Next.{Next}
 use Rattle.jtype.specs.declared.Next.the-variants as next
 use Rattle.jtype.specs.declared.Refusal.{Refusal}
 use Rattle.jtype.specs.declared.TypeRecord.{TypeRecord}
 use Rattle.jdescriptor.specs.Reading.{Reading, types, refused, after, returnAt, parameter, parametersAt, methodReading}
-use Rattle.jdescriptor.specs.Answer.{four, numbersOf, splice, IsTypes, recordsOf}
+use Rattle.jdescriptor.specs.Answer.{four, numbersOf, IsTypes, recordsOf}
 use Rattle.jdescriptor.proofs.Judging.{Enough, turn, no-text, not-opened, opened}
 
 pub set-four :
@@ -27,25 +29,6 @@ set-four a b c e l k h =
     let e3 : k + 3 ≡ suc (suc (suc k)) = omega arith in
     rw (e1, e2, e3)
     (sets-eq (a ∷ b ∷ c ∷ e ∷ []) l k h ∙ append-assoc (take k l) (a ∷ b ∷ c ∷ e ∷ []) (drop (k + 4) l))
-
--- two runs written one behind the other are one run
-pub splice-more :
-    (u v d : List ℕ) (k : ℕ) → k + length u ≤ length d → splice (k + length u) v (splice k u d) ≡ splice k (u ++ v) d
-unfolding splice
-splice-more u v d k h =
-    let front = take k d in
-    let behind = drop (k + length u) d in
-    let size : length (front ++ u) ≡ k + length u =
-    length-append front u ∙ ap (λ (n : ℕ). n + length u) (length-take-le k d (omega arith)) in
-    let one : front ++ (u ++ behind) ≡ (front ++ u) ++ behind = sym (append-assoc front u behind) in
-    let kept : take (k + length u) (front ++ (u ++ behind)) ≡ front ++ u =
-    ap (take (k + length u)) one ∙ take-at (front ++ u) behind (k + length u) size in
-    let far : k + length u + length v ≡ k + length (u ++ v) = omega (arith, length-append u v) in
-    let left : drop (k + length u + length v) (front ++ (u ++ behind)) ≡ drop (k + length (u ++ v)) d =
-    ap (λ (n : ℕ). drop (n + length v) (front ++ (u ++ behind))) (sym size)
-    ∙ ap (drop (length (front ++ u) + length v)) one ∙ drop-append-add (front ++ u) behind (length v)
-    ∙ drop-drop (length v) (k + length u) d ∙ ap (λ (n : ℕ). drop n d) far in
-    rw (kept, left, append-assoc front u (v ++ drop (k + length (u ++ v)) d), append-assoc u v (drop (k + length (u ++ v)) d))
 
 -- the types that are left fit from place k on, and written there they give what is wanted
 pub record Filling (R : Reading) (cells : List ℕ) (k : ℕ) (wanted : List ℕ) : Type 0 where

@@ -8,6 +8,7 @@ use mathlib.Core.List.{List, [], _∷_}
 use lib.Dec.{eqb}
 use lib.ListN.{length, getD}
 use borrow.Author.Tests.{lt-ltb, le-ltb}
+use Rattle.basics.specs.Parts.{splice}
 use Rattle.jtype.specs.OneType.{typeAt}
 use Rattle.jtype.specs.declared.Next.{Next}
 use Rattle.jtype.specs.declared.Next.the-variants as next
@@ -16,7 +17,7 @@ use Rattle.jtype.specs.declared.Refusal.the-variants.{MissingOpening, VoidParam
 use Rattle.jtype.specs.declared.TypeRecord.{TypeRecord}
 use Rattle.jtype.proofs.Ends.{type-within}
 use Rattle.jdescriptor.specs.Reading.{Reading, types, refused, after, returnAt, parameter, parametersAt, methodReading}
-use Rattle.jdescriptor.specs.Answer.{numbersOf, splice, answer, written, judged, raised, IsTypes, recordsOf}
+use Rattle.jdescriptor.specs.Answer.{numbersOf, answer, written, judged, raised, IsTypes, recordsOf}
 use Rattle.jdescriptor.specs.declared.Answer.{Answer}
 use Rattle.jdescriptor.specs.declared.Answer.the-variants.{Types, Refused}
 

@@ -3,8 +3,9 @@
 use Prim.Native.Nat.{ℕ, _+_, _*_}
 use mathlib.Core.List.{List, [], _∷_, _++_}
 use lib.Dec.{ltb}
-use lib.ListN.{length, take, drop}
+use lib.ListN.{length}
 use Rattle.basics.specs.Choice.{pick}
+use Rattle.basics.specs.Parts.{splice}
 use Rattle.jtype.specs.Refusal.{numberOf}
 use Rattle.jtype.specs.declared.Refusal.the-variants.{NoRoom}
 use Rattle.jtype.specs.declared.TypeRecord.{TypeRecord}
@@ -20,10 +21,6 @@ four t = t .letter ∷ t .dimensions ∷ t .start ∷ t .size ∷ []
 unfoldable pub numbersOf : List TypeRecord → List ℕ
 numbersOf [] = []
 numbersOf (t ∷ ts) = four t ++ numbersOf ts
-
--- w over d from place k on, the rest unchanged
-unfoldable pub splice : ℕ → List ℕ → List ℕ → List ℕ
-splice k w d = take k d ++ (w ++ drop (k + length w) d)
 
 -- "answers 0 with the count of types; 14 (added) if they don't fit, after 1 to 13"
 unfoldable pub answer : Reading → ℕ → Answer

@@ -6,8 +6,9 @@ use jtype::TypeRecord;
 ghost use mathlib.Core.Path.{_≡_};
 ghost use Prim.Native.Nat.{_+_, _*_, _≤_, _<_};
 ghost use lib.ListN.{length};
+ghost use Rattle.basics.specs.Parts.{splice};
 ghost use Rattle.jdescriptor.specs.Reading.{typeReading, returnAt, methodReading};
-ghost use Rattle.jdescriptor.specs.Answer.{four, numbersOf, splice, answer, written, judged, raised, IsTypes, recordsOf};
+ghost use Rattle.jdescriptor.specs.Answer.{four, numbersOf, answer, written, judged, raised, IsTypes, recordsOf};
 
 // What a strict reader answers.
 pub enum Answer {

@@ -2,22 +2,16 @@
 -- Assumes nothing.
 use Prim.Native.Nat.{ℕ, suc, _+_, _-_, _≤_, _<_}
 use native.Mathlib.Omega.{arith}
-use mathlib.Core.Bool.{Bool, true, false}
 use mathlib.Core.List.{List, [], _∷_}
 use lib.Dec.{eqb, ltb}
 use lib.ListN.{length, drop, length-drop}
-use Rattle.basics.specs.Choice.{pick}
+use Rattle.basics.proofs.Choice.{chosen}
 use Rattle.jtype.specs.OneType.{brackets, semicolonIn, semicolonFrom, isBase, unnamedType, classType, element, typeIn}
 use Rattle.jtype.specs.OneType.{typeAt}
 use Rattle.jtype.specs.declared.Found.{Found}
 use Rattle.jtype.specs.declared.Found.the-variants.{At, Absent}
 use Rattle.jtype.specs.declared.Next.{Next}
 use Rattle.jtype.specs.declared.Next.the-variants.{Is, Close, Refused}
-
--- either choice has a property, so the chosen one has it
-chosen : {A : Type 0} (P : A → Type 0) (b : Bool) (x y : A) → P x → P y → P (pick b x y)
-chosen P true x y p q = p
-chosen P false x y p q = q
 
 -- from a place on and before an end
 abbrev pub FoundWithin : ℕ → ℕ → Found → Type 0

@@ -10,6 +10,7 @@ use mathlib.Core.Logic.{_⊎_, inl, inr}
 use lib.Dec.{eqb, ltb}
 use lib.ListN.{length, length-append}
 use borrow.Author.Tests.{lt-ltb, le-ltb, ltb-true, ltb-false, eqb-true, eqb-false}
+use Rattle.basics.specs.Parts.{splice}
 use Rattle.basics.specs.Choice.{pick}
 use Rattle.jvms.specs.Descriptor.{FieldType, ReturnType, void, typed, MethodType}
 use Rattle.jvms.specs.Descriptor.{render, renderReturn, renderAll, renderMethod}
@@ -20,7 +21,7 @@ use Rattle.jtype.specs.declared.Refusal.{Refusal}
 use Rattle.jtype.specs.declared.Refusal.the-variants.{LoneClose, TrailingAfterType, MissingOpening, VoidParameter}
 use Rattle.jtype.specs.declared.Refusal.the-variants.{MissingReturn, TrailingAfterMethod, NoRoom}
 use Rattle.jdescriptor.specs.Reading.{Reading, types, refused, typeReading, methodReading}
-use Rattle.jdescriptor.specs.Answer.{numbersOf, splice, answer, written, IsTypes}
+use Rattle.jdescriptor.specs.Answer.{numbersOf, answer, written, IsTypes}
 use Rattle.jdescriptor.specs.declared.Answer.{Answer}
 use Rattle.jdescriptor.specs.declared.Answer.the-variants.{Types, Refused}
 use Rattle.strict.specs.Declared.{wrongType, lone, typeTrails, unopened, wrongParameter}

@@ -8,6 +8,7 @@ use mathlib.Core.List.{List, [], _∷_, _++_, append-assoc, append-nil}
 use lib.Dec.{eqb}
 use lib.ListN.{length, take, drop, length-append}
 use lib.Seq.{take-at}
+use Rattle.basics.proofs.Parts.{rest-of}
 use Rattle.jvms.specs.Descriptor.{BaseType, byte, char, double, float, int, long, short, boolean, letter}
 use Rattle.jvms.specs.Descriptor.{FieldType, base, class, array, ReturnType, void, typed, MethodType}
 use Rattle.jvms.specs.Descriptor.{render, renderReturn, renderAll, renderMethod}
@@ -17,7 +18,6 @@ use Rattle.strict.specs.Declared.{SpelledBack}
 use Rattle.strict.specs.Records.{recordOf, returnRecord, recordsAt, methodRecords, nameIn, spelled, spelledFrom}
 use Rattle.strict.specs.Records.{spelledMethod}
 use Rattle.strict.proofs.Meaning.{method-means, type-means}
-use Rattle.strict.proofs.Whole.{rest-of}
 
 letter-not-class : (b : BaseType) → eqb (letter b) 76 ≡ false
 letter-not-class byte = refl

@@ -9,8 +9,8 @@ use mathlib.Core.Bool.{true, false}
 use mathlib.Core.List.{List, [], _∷_, _++_, append-assoc, append-nil}
 use lib.Dec.{eqb, ltb}
 use lib.ListN.{length, drop, length-append, length-drop}
-use lib.Seq.{drop-at, drop-drop}
 use borrow.Author.Tests.{lt-ltb, le-ltb, ne-eqb}
+use Rattle.basics.proofs.Parts.{rest-of}
 use Rattle.jvms.specs.Descriptor.{BaseType, byte, char, double, float, int, long, short, boolean, letter}
 use Rattle.jvms.specs.Descriptor.{FieldType, base, class, array, ReturnType, void, typed, MethodType}
 use Rattle.jvms.specs.Descriptor.{render, renderReturn, renderAll, renderMethod}
@@ -28,10 +28,6 @@ use Rattle.strict.specs.Declared.{WrongType, wrongType, lone, typeTrails
 use Rattle.strict.specs.Declared.{voidParameter, wrongReturn, secondClose, methodTrails, TypeMeans, MethodMeans}
 use Rattle.strict.specs.Records.{letterOf, recordOf, returnRecord, recordsAt, methodRecords}
 use Rattle.strict.proofs.Computes.{reads-field, reads-return, reads-close, reads-wrong}
-
--- what follows u in a text that has u from a place on
-pub rest-of : (text u v : List ℕ) (at : ℕ) → drop at text ≡ u ++ v → drop (at + length u) text ≡ v
-rest-of text u v at e = sym (drop-drop (length u) at text) ∙ ap (drop (length u)) e ∙ drop-at u v (length u) refl
 
 -- ---- one type and then the end
 

@@ -8,6 +8,7 @@ use mathlib.Core.Path.{_≡_}
 use mathlib.Core.List.{List, [], _∷_, _++_}
 use mathlib.Core.Logic.{_⊎_}
 use lib.ListN.{length, replicate}
+use Rattle.basics.specs.Parts.{splice}
 use Rattle.jvms.specs.Descriptor.{BaseType, FieldType, ReturnType, MethodType}
 use Rattle.jvms.specs.Descriptor.{letter, render, renderAll, renderReturn, renderMethod}
 use Rattle.jvms.specs.Descriptor.{NoSemicolon, WellFormed, AllWellFormed, WellFormedReturn, WellFormedMethod}
@@ -19,7 +20,7 @@ use Rattle.jtype.specs.declared.Refusal.the-variants.{Unrecognised, MissingOpen
 use Rattle.jtype.specs.declared.Refusal.the-variants.{TrailingAfterMethod, NoRoom}
 use Rattle.jtype.specs.declared.TypeRecord.{TypeRecord}
 use Rattle.jdescriptor.specs.Reading.{Reading, types, refused, typeReading, methodReading}
-use Rattle.jdescriptor.specs.Answer.{numbersOf, splice, answer, written, IsTypes}
+use Rattle.jdescriptor.specs.Answer.{numbersOf, answer, written, IsTypes}
 use Rattle.jdescriptor.specs.declared.Answer.{Answer}
 use Rattle.jdescriptor.specs.declared.Answer.the-variants.{Types, Refused}
 use Rattle.strict.specs.Records.{methodRecords, returnRecord, spelled, spelledMethod}

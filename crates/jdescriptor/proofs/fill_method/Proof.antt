@@ -5,7 +5,8 @@ use native.Mathlib.Omega.{arith}
 use mathlib.Core.Path.{_≡_, _∙_, sym, refl}
 use lib.ListN.{length}
 use borrow.Author.Needs.{needs}
-use Rattle.jdescriptor.specs.Answer.{numbersOf, splice, recordsOf}
+use Rattle.basics.specs.Parts.{splice}
+use Rattle.jdescriptor.specs.Answer.{numbersOf, recordsOf}
 use Rattle.jdescriptor.specs.Reading.{parametersAt, methodReading}
 use Rattle.jdescriptor.proofs.Filling.{Filling, fits, filled, at-close, never-refused, begun}
 use Rattle.jdescriptor.proofs.Judging.{Enough, enough-more, type-ends, close-inside}
