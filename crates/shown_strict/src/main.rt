@@ -223,7 +223,20 @@ fn stir_all(h: u64, numbers: &[u64]) -> u64 {
     mixed
 }
 
-// One number for what both readers answer and write on the texts from one on.
+// What a reader answers and writes, stirred in.
+fn stir_type(h: u64, text: &[u8]) -> u64 {
+    let mut numbers = [7u64; 12];
+    let t = told_type(text, &mut numbers);
+    stir_all(stir(h, t), &numbers)
+}
+
+fn stir_method(h: u64, text: &[u8]) -> u64 {
+    let mut numbers = [7u64; 12];
+    let t = told_method(text, &mut numbers);
+    stir_all(stir(h, t), &numbers)
+}
+
+// One number for what both readers answer and write on so many texts from one on.
 fn digest(from: usize, count: usize, text: &mut [u8]) -> u64
     requires { ⌜ (from < 1000000) × (count < 1000000) ⌝ }
 {
@@ -231,31 +244,33 @@ fn digest(from: usize, count: usize, text: &mut [u8]) -> u64
     let mut k = 0;
     while k < count {
         spell(from + k, text);
-        let mut one = [7u64; 12];
-        mixed = stir(mixed, told_type(text, &mut one));
-        mixed = stir_all(mixed, &one);
-        let mut other = [7u64; 12];
-        mixed = stir(mixed, told_method(text, &mut other));
-        mixed = stir_all(mixed, &other);
+        mixed = stir_type(mixed, text);
+        mixed = stir_method(mixed, text);
         k += 1;
     }
     mixed
 }
 
 // A line for the texts of five and of six bytes that begin with the same three.
-fn digests() {
+fn digest_line(begin: usize)
+    requires { ⌜ begin < 512 ⌝ }
+{
     let mut beginning = [0u8; 3];
+    spell(begin, &mut beginning);
+    say(&beginning);
     let mut five = [0u8; 5];
+    say(b" ");
+    say_number(digest(begin * 64, 64, &mut five));
     let mut six = [0u8; 6];
+    say(b" ");
+    say_number(digest(begin * 512, 512, &mut six));
+    say(b"\n");
+}
+
+fn digest_lines() {
     let mut begin = 0;
     while begin < 512 {
-        spell(begin, &mut beginning);
-        say(&beginning);
-        say(b" ");
-        say_number(digest(begin * 64, 64, &mut five));
-        say(b" ");
-        say_number(digest(begin * 512, 512, &mut six));
-        say(b"\n");
+        digest_line(begin);
         begin += 1;
     }
 }
@@ -276,5 +291,5 @@ fn main() {
     rows(8, &mut [0u8; 1], &mut [0u8; 2]);
     rows(64, &mut [0u8; 2], &mut [0u8; 3]);
     rows(512, &mut [0u8; 3], &mut [0u8; 4]);
-    digests();
+    digest_lines();
 }

@@ -22,35 +22,11 @@ add-spell c = search needs
 spell-requires : tie.Need-spell-requires Inv-loop μ-loop
 spell-requires c κs = tt
 
-slice-aggregate-told-type : tie.Need-slice-aggregate-told-type Inv-loop μ-loop
-slice-aggregate-told-type c = search needs
+stir-type-requires : tie.Need-stir-type-requires Inv-loop μ-loop
+stir-type-requires c κs = tt
 
-told-type-requires : tie.Need-told-type-requires Inv-loop μ-loop
-told-type-requires c κs = tt
-
-stir-requires : tie.Need-stir-requires Inv-loop μ-loop
-stir-requires c κs = tt
-
-slice-aggregate-stir-all : tie.Need-slice-aggregate-stir-all Inv-loop μ-loop
-slice-aggregate-stir-all c = search needs
-
-stir-all-requires : tie.Need-stir-all-requires Inv-loop μ-loop
-stir-all-requires c κs = tt
-
-slice-aggregate-told-method : tie.Need-slice-aggregate-told-method Inv-loop μ-loop
-slice-aggregate-told-method c = search needs
-
-told-method-requires : tie.Need-told-method-requires Inv-loop μ-loop
-told-method-requires c κs = tt
-
-stir-requires-2 : tie.Need-stir-requires-2 Inv-loop μ-loop
-stir-requires-2 c κs = tt
-
-slice-aggregate-stir-all-2 : tie.Need-slice-aggregate-stir-all-2 Inv-loop μ-loop
-slice-aggregate-stir-all-2 c = search needs
-
-stir-all-requires-2 : tie.Need-stir-all-requires-2 Inv-loop μ-loop
-stir-all-requires-2 c κs = tt
+stir-method-requires : tie.Need-stir-method-requires Inv-loop μ-loop
+stir-method-requires c κs = tt
 
 add-k : tie.Need-add-k Inv-loop μ-loop
 add-k c = search needs
@@ -76,16 +52,8 @@ digest-spec =
     loop-holds
     add-spell
     spell-requires
-    slice-aggregate-told-type
-    told-type-requires
-    stir-requires
-    slice-aggregate-stir-all
-    stir-all-requires
-    slice-aggregate-told-method
-    told-method-requires
-    stir-requires-2
-    slice-aggregate-stir-all-2
-    stir-all-requires-2
+    stir-type-requires
+    stir-method-requires
     add-k
     loop-less
     loop-again
