@@ -62,50 +62,38 @@ fn show_answer(answer: Answer, numbers: &[u64]) {
     say(b"\n");
 }
 
-fn show_type(text: &[u8], numbers: &mut [u64]) {
-    say(b"type ");
-    say(text);
-    let answer = jdescriptor::parse_type(text, numbers);
-    show_answer(answer, numbers);
+// The reader of a method, or of a type.
+fn parse(method: bool, text: &[u8], numbers: &mut [u64]) -> Answer {
+    if method {
+        return jdescriptor::parse_method(text, numbers);
+    }
+    jdescriptor::parse_type(text, numbers)
 }
 
-fn show_method(text: &[u8], numbers: &mut [u64]) {
-    say(b"method ");
+fn show(method: bool, text: &[u8], numbers: &mut [u64]) {
+    if method {
+        say(b"method ");
+    } else {
+        say(b"type ");
+    }
     say(text);
-    let answer = jdescriptor::parse_method(text, numbers);
+    let answer = parse(method, text, numbers);
     show_answer(answer, numbers);
 }
 
 // With room for three types. What is not written stays 7.
-fn one_type(text: &[u8]) {
+fn one(method: bool, text: &[u8]) {
     let mut numbers = [7u64; 12];
-    show_type(text, &mut numbers);
-}
-
-fn one_method(text: &[u8]) {
-    let mut numbers = [7u64; 12];
-    show_method(text, &mut numbers);
+    show(method, text, &mut numbers);
 }
 
 // Each text ends with a newline.
-fn each_type(texts: &[u8]) {
+fn each(method: bool, texts: &[u8]) {
     let mut from = 0;
     let mut i = 0;
     while i < texts.len() {
         if texts[i] == b'\n' {
-            one_type(&texts[from..i]);
-            from = i + 1;
-        }
-        i += 1;
-    }
-}
-
-fn each_method(texts: &[u8]) {
-    let mut from = 0;
-    let mut i = 0;
-    while i < texts.len() {
-        if texts[i] == b'\n' {
-            one_method(&texts[from..i]);
+            one(method, &texts[from..i]);
             from = i + 1;
         }
         i += 1;
@@ -116,26 +104,26 @@ fn each_method(texts: &[u8]) {
 fn deep_types() {
     let mut most = [b'['; 256];
     most[255] = b'I';
-    one_type(&most);
+    one(false, &most);
     let mut over = [b'['; 257];
     over[256] = b'I';
-    one_type(&over);
-    one_type(&[b'['; 256]);
+    one(false, &over);
+    one(false, &[b'['; 256]);
 }
 
 // Too little room, and a text that is wrong besides.
 fn without_room() {
     let mut three = [7u64; 3];
-    show_type(b"I", &mut three);
-    show_type(b"Q", &mut three);
-    show_method(b"()V", &mut three);
-    show_method(b"()VV", &mut three);
+    show(false, b"I", &mut three);
+    show(false, b"Q", &mut three);
+    show(true, b"()V", &mut three);
+    show(true, b"()VV", &mut three);
     let mut four = [7u64; 4];
-    show_type(b"I", &mut four);
+    show(false, b"I", &mut four);
     let mut eight = [7u64; 8];
-    show_method(b"(I)V", &mut eight);
+    show(true, b"(I)V", &mut eight);
     let mut seven = [7u64; 7];
-    show_method(b"(I)V", &mut seven);
+    show(true, b"(I)V", &mut seven);
 }
 
 // The text that stands at a number in the list of all texts of this length.
@@ -157,27 +145,14 @@ fn told(answer: Answer) -> u64 {
     }
 }
 
-fn told_type(text: &[u8], numbers: &mut [u64]) -> u64 {
-    told(jdescriptor::parse_type(text, numbers))
-}
-
-fn told_method(text: &[u8], numbers: &mut [u64]) -> u64 {
-    told(jdescriptor::parse_method(text, numbers))
-}
-
 // 0 where types were read, else a letter for the refusal.
 fn answer_letter(n: u64) -> u8 {
     if n < 15 { ANSWERS[n as usize] } else { b'0' }
 }
 
-fn type_letter(text: &[u8]) -> u8 {
+fn letter(method: bool, text: &[u8]) -> u8 {
     let mut numbers = [7u64; 12];
-    answer_letter(told_type(text, &mut numbers))
-}
-
-fn method_letter(text: &[u8]) -> u8 {
-    let mut numbers = [7u64; 12];
-    answer_letter(told_method(text, &mut numbers))
+    answer_letter(told(parse(method, text, &mut numbers)))
 }
 
 // A line for the eight texts that begin with the same bytes and have one more: the type reader's answers, then the method's.
@@ -188,8 +163,8 @@ fn row(begin: usize, beginning: &mut [u8], text: &mut [u8])
     let mut k = 0;
     while k < 8 {
         spell(begin * 8 + k, text);
-        line[k] = type_letter(text);
-        line[9 + k] = method_letter(text);
+        line[k] = letter(false, text);
+        line[9 + k] = letter(true, text);
         k += 1;
     }
     line[17] = b'\n';
@@ -224,16 +199,10 @@ fn stir_all(h: u64, numbers: &[u64]) -> u64 {
 }
 
 // What a reader answers and writes, stirred in.
-fn stir_type(h: u64, text: &[u8]) -> u64 {
+fn stir_one(method: bool, h: u64, text: &[u8]) -> u64 {
     let mut numbers = [7u64; 12];
-    let t = told_type(text, &mut numbers);
-    stir_all(stir(h, t), &numbers)
-}
-
-fn stir_method(h: u64, text: &[u8]) -> u64 {
-    let mut numbers = [7u64; 12];
-    let t = told_method(text, &mut numbers);
-    stir_all(stir(h, t), &numbers)
+    let n = told(parse(method, text, &mut numbers));
+    stir_all(stir(h, n), &numbers)
 }
 
 // One number for what both readers answer and write on so many texts from one on.
@@ -244,8 +213,8 @@ fn digest(from: usize, count: usize, text: &mut [u8]) -> u64
     let mut k = 0;
     while k < count {
         spell(from + k, text);
-        mixed = stir_type(mixed, text);
-        mixed = stir_method(mixed, text);
+        mixed = stir_one(false, mixed, text);
+        mixed = stir_one(true, mixed, text);
         k += 1;
     }
     mixed
@@ -276,14 +245,17 @@ fn digest_lines() {
 }
 
 fn main() {
-    each_type(
+    each(
+        false,
         b"\n[\n)\n)x\nII\nLa;I\nL;\n[L;\nL\nLa/b\n[)\n[V\nQ\n[Q\nV\nZ\n[[La/b;\nL[;\nLjava/lang/String;\n",
     );
     deep_types();
-    each_method(
+    each(
+        true,
         b"\nx\nI\n(\n(I\n()\n([\n(V\n(IV)V\n())\n())V\n()VV\n(L;)V\n(La)V\n([)V\n([V)V\n(Q)V\n",
     );
-    each_method(
+    each(
+        true,
         b"()[V\n()Q\n()La\n()V\n(La)J;)V\n(J[[La/b;)V\n([[[Ljava/lang/String;)[[[I\n(III)V\n(III)\n",
     );
     without_room();

@@ -22,11 +22,11 @@ add-spell c = search needs
 spell-requires : tie.Need-spell-requires Inv-loop μ-loop
 spell-requires c κs = tt
 
-stir-type-requires : tie.Need-stir-type-requires Inv-loop μ-loop
-stir-type-requires c κs = tt
+stir-one-requires : tie.Need-stir-one-requires Inv-loop μ-loop
+stir-one-requires c κs = tt
 
-stir-method-requires : tie.Need-stir-method-requires Inv-loop μ-loop
-stir-method-requires c κs = tt
+stir-one-requires-2 : tie.Need-stir-one-requires-2 Inv-loop μ-loop
+stir-one-requires-2 c κs = tt
 
 add-k : tie.Need-add-k Inv-loop μ-loop
 add-k c = search needs
@@ -52,8 +52,8 @@ digest-spec =
     loop-holds
     add-spell
     spell-requires
-    stir-type-requires
-    stir-method-requires
+    stir-one-requires
+    stir-one-requires-2
     add-k
     loop-less
     loop-again

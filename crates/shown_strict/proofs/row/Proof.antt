@@ -25,14 +25,14 @@ add-spell c = search needs
 spell-requires : tie.Need-spell-requires Inv-loop μ-loop
 spell-requires c κs = tt
 
-type-letter-requires : tie.Need-type-letter-requires Inv-loop μ-loop
-type-letter-requires c κs = tt
+letter-requires : tie.Need-letter-requires Inv-loop μ-loop
+letter-requires c κs = tt
 
 array-write-line : tie.Need-array-write-line Inv-loop μ-loop
 array-write-line c = search needs
 
-method-letter-requires : tie.Need-method-letter-requires Inv-loop μ-loop
-method-letter-requires c κs = tt
+letter-requires-2 : tie.Need-letter-requires-2 Inv-loop μ-loop
+letter-requires-2 c κs = tt
 
 add-line : tie.Need-add-line Inv-loop μ-loop
 add-line c = search needs
@@ -89,9 +89,9 @@ row-spec =
     mul-spell
     add-spell
     spell-requires
-    type-letter-requires
+    letter-requires
     array-write-line
-    method-letter-requires
+    letter-requires-2
     add-line
     array-write-line-2
     add-k

@@ -1,18 +1,18 @@
--- `shown_strict::each_method` meets its contract. The part that is shown ends where the loop stands.
+-- `shown_strict::each` meets its contract. The part that is shown ends where the loop stands.
 -- Assumes nothing.
 use Prim.Native.Nat.{_-_, _≤_}
 use native.Mathlib.Omega.{arith}
 use mathlib.Core.Logic.{⊎-elim}
 use lib.ListN.{length}
 use borrow.Author.Needs.{needs}
-use Rattle.shown_strict.proofs.each_method.Statement.{statement}
-use Rattle.shown_strict.proofs.each_method.Tie as tie
+use Rattle.shown_strict.proofs.each.Statement.{statement}
+use Rattle.shown_strict.proofs.each.Tie as tie
 
 abbrev Inv-loop : tie.InvT-loop
-Inv-loop texts from₀ i₀ from i = (from ≤ i) × (i ≤ length texts)
+Inv-loop method texts from₀ i₀ from i = (from ≤ i) × (i ≤ length texts)
 
 abbrev μ-loop : tie.MeasureT-loop
-μ-loop texts from₀ i₀ from i = length texts - i
+μ-loop method texts from₀ i₀ from i = length texts - i
 
 loop-holds : tie.Need-loop-holds Inv-loop μ-loop
 loop-holds c = search needs
@@ -20,17 +20,17 @@ loop-holds c = search needs
 shared-slice-read-if1 : tie.Need-shared-slice-read-if1 Inv-loop μ-loop
 shared-slice-read-if1 c = search needs
 
-sub-one-method : tie.Need-sub-one-method Inv-loop μ-loop
-sub-one-method c = search needs
+sub-one : tie.Need-sub-one Inv-loop μ-loop
+sub-one c = search needs
 
-part-one-method-start : tie.Need-part-one-method-start Inv-loop μ-loop
-part-one-method-start c = search needs
+part-one-start : tie.Need-part-one-start Inv-loop μ-loop
+part-one-start c = search needs
 
-part-one-method-end : tie.Need-part-one-method-end Inv-loop μ-loop
-part-one-method-end c = search needs
+part-one-end : tie.Need-part-one-end Inv-loop μ-loop
+part-one-end c = search needs
 
-one-method-requires : tie.Need-one-method-requires Inv-loop μ-loop
-one-method-requires c κs = tt
+one-requires : tie.Need-one-requires Inv-loop μ-loop
+one-requires c κs = tt
 
 add-from : tie.Need-add-from Inv-loop μ-loop
 add-from c = search needs
@@ -47,18 +47,18 @@ loop-again c = (⊎-elim (λ w. omega arith) (λ w. omega arith) (c .if1 .came),
 returns : tie.Need-returns Inv-loop μ-loop
 returns c = search needs
 
-pub each-method-spec : {M : Type 1} → statement M
-each-method-spec =
+pub each-spec : {M : Type 1} → statement M
+each-spec =
     tie.close
     (tie.spec
     Inv-loop
     μ-loop
     loop-holds
     shared-slice-read-if1
-    sub-one-method
-    part-one-method-start
-    part-one-method-end
-    one-method-requires
+    sub-one
+    part-one-start
+    part-one-end
+    one-requires
     add-from
     add-i
     loop-less
