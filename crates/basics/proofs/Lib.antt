@@ -1,5 +1,7 @@
 pub mod Bytes
+pub mod Choice
 pub mod Every
 pub mod Outcome
+pub mod Parts
 pub mod Same
 pub mod Table

@@ -2,3 +2,4 @@ pub mod Ascii
 pub mod Bytes
 pub mod Choice
 pub mod Member
+pub mod Parts

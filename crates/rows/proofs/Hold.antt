@@ -12,6 +12,10 @@ use Rattle.descriptor.specs.Readers.{slotsOf, judged, parameters, closing, slot
 use Rattle.descriptor.specs.Search.{firstIn, firstFrom}
 use Rattle.descriptor.specs.Types.{brackets, typeBehind, fieldTypeAt, typeSlots, typesFrom, typesAt, typesOf}
 use Rattle.names.specs.Names.{dotOf, dotted, className, baseNames, baseName, elementName, bracketPairs, typeName, typeNames, commaed, joined, parameterNames}
+use Rattle.jtype.specs.OneType.{brackets as strictBrackets, isBase, unnamedType, element, typeIn, typeAt}
+use Rattle.jtype.specs.Refusal.{numberOf}
+use Rattle.jdescriptor.specs.Answer.{answer, numbered}
+use Rattle.jdescriptor.specs.Reading.{typeReading, returnAt, parametersAt, methodReading}
 use Rattle.rows.specs.Rows.{AllHold, rows}
 
 pub rows-hold : AllHold rows
@@ -20,4 +24,6 @@ unfolding rows
     blockLeader answered instructions scanFrom scanCount leadersOf leadersAt kindOf target entryTargets switchTargets greatest upTo
     parameters judged slotsOf typesOf typesAt typesFrom fieldTypeAt typeBehind brackets firstFrom firstIn typeSlots returnSlots closing slotsBehind
     parameterNames joined commaed typeNames typeName elementName baseName baseNames bracketPairs className dotted dotOf
-rows-hold = (refl, (refl, (refl, (refl, (refl, (refl, (refl, (refl, (refl, ((refl, refl), (refl, (refl, tt))))))))))))
+    numbered numberOf answer typeReading methodReading parametersAt returnAt typeAt typeIn strictBrackets element isBase unnamedType
+rows-hold =
+    (refl, (refl, (refl, (refl, (refl, (refl, (refl, (refl, (refl, ((refl, refl), (refl, (refl, (refl, (refl, (refl, (refl, tt))))))))))))))))

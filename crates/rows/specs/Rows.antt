@@ -2,7 +2,8 @@
 -- Assumes nothing.
 use Prim.Native.Nat.{ℕ}
 use mathlib.Core.Path.{_≡_}
-use mathlib.Core.List.{List, [], _∷_}
+use mathlib.Core.List.{List, [], _∷_, _++_}
+use lib.ListN.{replicate}
 use Rattle.bytecode.specs.Length.{lengthOf}
 use Rattle.bytecode.specs.declared.Measure.{Measure}
 use Rattle.bytecode.specs.declared.Measure.the-variants.{Length, NoLength}
@@ -16,6 +17,8 @@ use Rattle.leader.specs.Scan.{blockLeader}
 use Rattle.leader.specs.declared.Scan.{Scan}
 use Rattle.leader.specs.declared.Scan.the-variants.{Leader}
 use Rattle.names.specs.Names.{parameterNames}
+use Rattle.jdescriptor.specs.Answer.{answer, numbered}
+use Rattle.jdescriptor.specs.Reading.{typeReading, methodReading}
 
 pub data Row : Type 0 where
   -- a code, an index of it, and what measuring there answers
@@ -26,12 +29,17 @@ pub data Row : Type 0 where
   takes : List ℕ → Params → List ℕ → Row
   -- a descriptor, and the slots of its return
   returns : List ℕ → Slots → Row
+  -- a text, the room for numbers, and what the strict reader of a method, or of a type, answers in document 01's numbers
+  methodReads : List ℕ → ℕ → List ℕ → Row
+  typeReads : List ℕ → ℕ → List ℕ → Row
 
 abbrev pub Holds : Row → Type 0
 Holds (measures code pc answer) = lengthOf code pc ≡ answer
 Holds (leads code fault answer) = blockLeader lengthOf [] code fault ≡ answer
 Holds (takes text read names) = (parameters text ≡ read) × (parameterNames text ≡ names)
 Holds (returns text slots) = returnSlots text ≡ slots
+Holds (methodReads text room told) = numbered (answer (methodReading text) room) ≡ told
+Holds (typeReads text room told) = numbered (answer (typeReading text) room) ≡ told
 
 abbrev pub AllHold : List Row → Type 0
 AllHold [] = Unit
@@ -56,4 +64,9 @@ rows =
     takes (ascii "(IJ[D)V") (Read 4 5) (ascii "int, long, double[]") ∷
     returns (ascii "(IJ[D)V") (SlotsOf 0) ∷
     returns (ascii "(La)J;)V") (SlotsOf 2) ∷
+    -- "strict `()` is 1, `())` is 12, 255 `[` then I passes, 256 is 2."
+    methodReads (40 ∷ 41 ∷ []) 4 (1 ∷ []) ∷
+    methodReads (40 ∷ 41 ∷ 41 ∷ []) 4 (12 ∷ []) ∷
+    typeReads (replicate 255 91 ++ (73 ∷ [])) 4 (0 ∷ 1 ∷ []) ∷
+    typeReads (replicate 256 91 ++ (73 ∷ [])) 4 (2 ∷ []) ∷
     []

@@ -1,0 +1,9 @@
+-- A part of a list that is written over.
+-- Assumes nothing.
+use Prim.Native.Nat.{ℕ, _+_}
+use mathlib.Core.List.{List, _++_}
+use lib.ListN.{length, take, drop}
+
+-- w over d from place k on, the rest unchanged
+unfoldable pub splice : ℕ → List ℕ → List ℕ → List ℕ
+splice k w d = take k d ++ (w ++ drop (k + length w) d)

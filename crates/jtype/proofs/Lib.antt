@@ -1,0 +1,4 @@
+pub mod Ends
+pub mod Laws
+pub mod Letters
+pub mod Numbers
