@@ -1,5 +1,6 @@
 pub mod FirstWrong
 pub mod Item
 pub mod LaidOut
+pub mod Listed
 pub mod Lookup
 pub mod Standing
