@@ -5,3 +5,4 @@ pub mod Items
 pub mod Laying
 pub mod Listed
 pub mod Reading
+pub mod Reasons
