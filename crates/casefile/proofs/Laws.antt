@@ -77,7 +77,9 @@ module _ (limit : ℕ) (bytes : List ℕ) (at : ℕ) where
     unfolding numberAt numberFrom
     number-one below = rw (drop-cons bytes at 0 inside, lt-ltb _ _ below)
 
-    from-more : 128 ≤ getD bytes at 0 → numberFrom (drop at bytes) at ≡ further (getD bytes at 0 - 128) (numberFrom (drop (at + 1) bytes) (at + 1))
+    from-more :
+        128 ≤ getD bytes at 0 →
+        numberFrom (drop at bytes) at ≡ further (getD bytes at 0 - 128) (numberFrom (drop (at + 1) bytes) (at + 1))
     unfolding numberFrom
     from-more above =
         let next : drop at bytes ≡ getD bytes at 0 ∷ drop (at + 1) bytes = rw (add-one, drop-cons bytes at 0) in

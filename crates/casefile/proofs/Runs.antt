@@ -5,13 +5,13 @@ use native.Mathlib.Nat.{not-suc-le-zero}
 use native.Mathlib.Numerals.{sub-one}
 use mathlib.Core.Path.{_≡_, refl, sym}
 use mathlib.Core.Bool.{Bool, true, false}
-use mathlib.Core.List.{List, []}
+use mathlib.Core.List.{List, [], _∷_}
 use lib.Dec.{eqb, ltb, leb}
 use Rattle.basics.specs.Choice.{pick}
 use Rattle.casefile.specs.Number.{greatest, numberAt}
 use Rattle.casefile.specs.Text.{textAt, thenText}
 use Rattle.casefile.specs.Layout.{Layout, text, threeTexts, memberThen, membersThen, recordThen, recordsThen, ended, runBy, thenRun}
-use Rattle.casefile.specs.LocalRecord.{recordAt, thenRecord}
+use Rattle.casefile.specs.LocalRecord.{recordAt, thenRecord, recordsIn}
 use Rattle.casefile.specs.Member.{memberAt, thenMember, textsOf, memberFound}
 use Rattle.casefile.specs.declared.Number.{Number}
 use Rattle.casefile.specs.declared.Number.the-variants.{Value, NotNumber}
@@ -128,7 +128,7 @@ module _ (bytes : List ℕ) (at : ℕ) (following : Layout) where
       by-start (Value start lengthAt) e = by-length start lengthAt e (numberAt greatest bytes lengthAt) refl
       by-start NotNumber e = rw e
 
--- ---- one turn of each loop
+-- ---- one turn of each loop, and of a search over the local records
 
 pub members-turn :
     (bytes : List ℕ) (left last at : ℕ) → 0 < left →
@@ -157,3 +157,11 @@ pub found-turn :
 unfolding memberFound
 found-turn bytes index kind zero last at some = absurd (not-suc-le-zero some)
 found-turn bytes index kind (suc left) last at some = simp sub-one
+
+pub listed-turn :
+    (bytes : List ℕ) (left at : ℕ) → 0 < left →
+    recordsIn bytes left at
+    ≡ thenRecord (recordAt bytes at) (λ wrong. []) (λ place. place ∷ recordsIn bytes (left - 1) (place .next))
+unfolding recordsIn
+listed-turn bytes zero at some = absurd (not-suc-le-zero some)
+listed-turn bytes (suc left) at some = simp sub-one

@@ -1,5 +1,5 @@
-pub mod LocalRecord
 pub mod Layout
+pub mod LocalRecord
 pub mod Member
 pub mod Number
 pub mod Parts

@@ -198,7 +198,8 @@ fn read_member(bytes: &[u8], at: usize, last: usize) -> Member
 
 // So many members from a place on, whose pool indexes are above 0 and strictly rise.
 fn read_members(bytes: &[u8], from: usize, count: usize) -> Run
-    ensures { λ r. ⌜ (r ≡ runBy (membersThen count 0 ended) (now (bytes .entry)) from) × runWithin (length (now (bytes .entry))) from r ⌝ }
+    ensures { λ r. ⌜ (r ≡ runBy (membersThen count 0 ended) (now (bytes .entry)) from)
+        × runWithin (length (now (bytes .entry))) from r ⌝ }
 {
     let mut at = from;
     let mut last = 0;
@@ -246,7 +247,8 @@ pub fn read_record(records: &[u8], at: usize) -> LocalRecord
 
 // So many local records from a place on.
 fn read_records(bytes: &[u8], from: usize, count: usize) -> Run
-    ensures { λ r. ⌜ (r ≡ runBy (recordsThen count ended) (now (bytes .entry)) from) × runWithin (length (now (bytes .entry))) from r ⌝ }
+    ensures { λ r. ⌜ (r ≡ runBy (recordsThen count ended) (now (bytes .entry)) from)
+        × runWithin (length (now (bytes .entry))) from r ⌝ }
 {
     let mut at = from;
     let mut left = count;

@@ -72,7 +72,7 @@ fewest (before {group = group} {v = zero} {run = run} small rest) =
 fewest (before {group = group} {v = suc v} {run = run} small rest) =
     omega (arith, ap (length {A = ℕ}) (number-large group (suc v) small (omega arith)), fewest rest)
 
-only : {v : ℕ} {run : List ℕ} → Groups v run → length run ≤ length (numberBytes v) → run ≡ numberBytes v
+pub only : {v : ℕ} {run : List ℕ} → Groups v run → length run ≤ length (numberBytes v) → run ≡ numberBytes v
 only (last {group = group} small) short = sym (number-small group small)
 only (before {group = group} {v = zero} {run = run} small rest) short =
     absurd (omega (arith, ap (length {A = ℕ}) (number-small (group + 128 * 0) (omega arith)), some-groups rest))

@@ -75,7 +75,9 @@ members-on bytes at last following (m ∷ ms) (more above right rest) stands =
     let behind = second-stands bytes at index (kind ++ texts) own in
     let ends : at + length index + length kind + length texts ≡ at + length (index ++ (kind ++ texts)) =
     omega (arith, length-append index (kind ++ texts), length-append kind texts) in
-    let all : at + length (index ++ (kind ++ texts)) + length (membersBytes ms) ≡ at + length ((index ++ (kind ++ texts)) ++ membersBytes ms) =
+    let all :
+    at + length (index ++ (kind ++ texts)) + length (membersBytes ms)
+    ≡ at + length ((index ++ (kind ++ texts)) ++ membersBytes ms) =
     omega (arith, length-append (index ++ (kind ++ texts)) (membersBytes ms)) in
     number-on bytes at (λ i. ltb last i) (λ i. number (λ k. leb k 1) (λ k. threeTexts (membersThen (length ms) i following)))
     (m .index) (right .index) (lt-ltb last (m .index) above) (first-stands bytes at index (kind ++ texts) own)

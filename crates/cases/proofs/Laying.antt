@@ -92,7 +92,8 @@ module _ (bytes : List ℕ) (at : ℕ) (p : Parts) (right : LaidOut p) where
   tables-read stands all =
       rw (
         number-reads greatest bytes at (p .memberCount) (right .memberCount) (first-stands bytes at (numberBytes (p .memberCount)) _ stands),
-        member-run bytes membersAt (p .memberCount) (p .members) (right .members) (first-stands bytes membersAt (p .members) _ (members-stand stands)),
+        member-run bytes membersAt (p .memberCount) (p .members) (right .members)
+            (first-stands bytes membersAt (p .members) _ (members-stand stands)),
         number-reads greatest bytes membersEnd (p .recordCount) (right .recordCount)
             (first-stands bytes membersEnd (numberBytes (p .recordCount)) (p .records) (count-stands stands)),
         record-run bytes recordsAt (p .recordCount) (p .records) (right .records) (records-stand stands),
@@ -220,8 +221,10 @@ module _ (p : Parts) (right : LaidOut p) where
         text-part-is laidBytes signatureAt (p .signature)
             (first-stands laidBytes signatureAt (textBytes (p .signature)) fromTables signature-stands),
         part-between (membersAt laidBytes tablesPlace p right) (p .members)
-            (first-stands laidBytes (membersAt laidBytes tablesPlace p right) (p .members) _ (members-stand laidBytes tablesPlace p right tables-stand)),
-        part-between (recordsAt laidBytes tablesPlace p right) (p .records) (records-stand laidBytes tablesPlace p right tables-stand),
+            (first-stands laidBytes (membersAt laidBytes tablesPlace p right) (p .members) _
+            (members-stand laidBytes tablesPlace p right tables-stand)),
+        part-between (recordsAt laidBytes tablesPlace p right) (p .records)
+            (records-stand laidBytes tablesPlace p right tables-stand),
       )
 
 pub reads-back : ReadsBack
@@ -267,7 +270,9 @@ module _ (bytes : List ℕ) (are : AreBytes bytes) where
       of-records :
           (count : NumberBefore bytes are any (λ n. membersThen n 0 afterMembers) at end)
           (members : MembersBefore bytes are (count .v) 0 afterMembers (at + length (numberBytes (count .v))) end)
-          (recordCount : NumberBefore bytes are any (λ n. recordsThen n ended) (at + length (numberBytes (count .v)) + length (membersBytes (members .members))) end) →
+          (recordCount :
+          NumberBefore bytes are any (λ n. recordsThen n ended)
+          (at + length (numberBytes (count .v)) + length (membersBytes (members .members))) end) →
           RecordsBefore bytes are (recordCount .v) ended
           (at + length (numberBytes (count .v)) + length (membersBytes (members .members)) + length (numberBytes (recordCount .v))) end →
           TablesBefore at end
@@ -290,7 +295,8 @@ module _ (bytes : List ℕ) (are : AreBytes bytes) where
             stands =
                 both-stand bytes at (numberBytes (count .v)) (memberRun ++ fromCount) (count .stands)
                 (both-stand bytes membersAt memberRun fromCount (members .stands)
-                (both-stand bytes (membersAt + length memberRun) (numberBytes (recordCount .v)) recordRun (recordCount .stands) (records .stands)));
+                (both-stand bytes (membersAt + length memberRun) (numberBytes (recordCount .v)) recordRun
+                (recordCount .stands) (records .stands)));
             ends =
                 omega (
                   arith,
@@ -307,12 +313,14 @@ module _ (bytes : List ℕ) (are : AreBytes bytes) where
       of-record-count :
           (count : NumberBefore bytes are any (λ n. membersThen n 0 afterMembers) at end)
           (members : MembersBefore bytes are (count .v) 0 afterMembers (at + length (numberBytes (count .v))) end) →
-          NumberBefore bytes are any (λ n. recordsThen n ended) (at + length (numberBytes (count .v)) + length (membersBytes (members .members))) end →
+          NumberBefore bytes are any (λ n. recordsThen n ended)
+          (at + length (numberBytes (count .v)) + length (membersBytes (members .members))) end →
           TablesBefore at end
       of-record-count count members recordCount =
           of-records count members recordCount
           (records-back bytes are (recordCount .v) ended
-          (at + length (numberBytes (count .v)) + length (membersBytes (members .members)) + length (numberBytes (recordCount .v))) end (recordCount .onward))
+          (at + length (numberBytes (count .v)) + length (membersBytes (members .members)) + length (numberBytes (recordCount .v))) end
+          (recordCount .onward))
 
       of-members :
           (count : NumberBefore bytes are any (λ n. membersThen n 0 afterMembers) at end) →

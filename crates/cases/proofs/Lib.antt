@@ -3,4 +3,6 @@ pub mod Found
 pub mod Groups
 pub mod Items
 pub mod Laying
+pub mod Listed
 pub mod Reading
+pub mod Reasons

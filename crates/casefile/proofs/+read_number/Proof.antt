@@ -74,26 +74,38 @@ read-number-returns-2 : (t : ℕ) → read-number-lts.Need-returns-2 (
   read-number.Post,
 ) (read-number-at t) read-number.Post
 read-number-returns-2 t c =
-    let a = c .before .before .before .before .before .args in
+    let after-if2 = c .before in
+    let after-if1 = after-if2 .before .before in
+    let start = after-if1 .before .before in
+    let a = start .args in
     whole (a .bytes .now) (a .at) (a .limit)
-    (sym (rw (number-one (a .limit) (a .bytes .now) (a .at) (c .before .before .before .if1 .left) (c .before .if2 .taken), le-leb _ _ (c .if3 .taken))))
+    (sym
+    (rw (number-one (a .limit) (a .bytes .now) (a .at) (after-if1 .if1 .left) (after-if2 .if2 .taken), le-leb _ _ (c .if3 .taken))))
 
 read-number-returns-3 : (t : ℕ) → read-number-lts.Need-returns-3 (
   read-number-below t,
   read-number.Post,
 ) (read-number-at t) read-number.Post
 read-number-returns-3 t c =
-    let a = c .before .before .before .before .before .args in
+    let after-if2 = c .before in
+    let after-if1 = after-if2 .before .before in
+    let start = after-if1 .before .before in
+    let a = start .args in
     whole (a .bytes .now) (a .at) (a .limit)
-    (sym (rw (number-one (a .limit) (a .bytes .now) (a .at) (c .before .before .before .if1 .left) (c .before .if2 .taken), lt-leb _ _ (c .if3 .left))))
+    (sym
+    (rw (number-one (a .limit) (a .bytes .now) (a .at) (after-if1 .if1 .left) (after-if2 .if2 .taken), lt-leb _ _ (c .if3 .left))))
 
 read-number-returns-4 : (t : ℕ) → read-number-lts.Need-returns-4 (
   read-number-below t,
   read-number.Post,
 ) (read-number-at t) read-number.Post
 read-number-returns-4 t c =
-    let a = c .before .before .before .before .before .args in
-    whole (a .bytes .now) (a .at) (a .limit) (sym (number-small (a .limit) (a .bytes .now) (a .at) (c .before .before .before .if1 .left) (c .before .if2 .left) (c .if4 .taken)))
+    let after-if2 = c .before in
+    let after-if1 = after-if2 .before .before in
+    let start = after-if1 .before .before in
+    let a = start .args in
+    whole (a .bytes .now) (a .at) (a .limit)
+    (sym (number-small (a .limit) (a .bytes .now) (a .at) (after-if1 .if1 .left) (after-if2 .if2 .left) (c .if4 .taken)))
 
 read-number-add-read-number : (t : ℕ) → read-number-lts.Need-add-read-number (
   read-number-below t,
@@ -105,13 +117,18 @@ read-number-sub-read-number : (t : ℕ) → read-number-lts.Need-sub-read-number
   read-number-below t,
   read-number.Post,
 ) (read-number-at t) read-number.Post
-read-number-sub-read-number t c = omega (arith, c .before .before .shared-slice-known2 .given (c .before .before .before .before .before .args .at))
+read-number-sub-read-number t c =
+    let after-shared-slice-known2 = c .before .before in
+    let start = after-shared-slice-known2 .before .before .before in
+    omega (arith, after-shared-slice-known2 .shared-slice-known2 .given (start .args .at))
 
 read-number-read-number-requires : (t : ℕ) → read-number-lts.Need-read-number-requires (
   read-number-below t,
   read-number.Post,
 ) (read-number-at t) read-number.Post
-read-number-read-number-requires t c κs = omega (arith, c .before .before .before .before .before .pre)
+read-number-read-number-requires t c κs =
+    let start = c .before .before .before .before .before in
+    omega (arith, start .pre)
 
 read-number-enum-known-high : (t : ℕ) → read-number-lts.Need-enum-known-high (
   read-number-below t,
@@ -130,26 +147,50 @@ read-number-returns-5 : (t : ℕ) → read-number-lts.Need-returns-5 (
   read-number.Post,
 ) (read-number-at t) read-number.Post
 read-number-returns-5 t c =
-    let a = c .before .before .before .before .before .before .before .before .args in
+    let after-read-number = c .before .before in
+    let after-if4 = after-read-number .before in
+    let after-if2 = after-if4 .before in
+    let after-shared-slice-known2 = after-if2 .before in
+    let after-if1 = after-shared-slice-known2 .before in
+    let start = after-if1 .before .before in
+    let a = start .args in
+    let byte = after-shared-slice-known2 .shared-slice-known2 .given (a .at) in
     whole (a .bytes .now) (a .at) (a .limit)
-    (sym (more (a .bytes .now) (a .at) (a .limit) (c .before .before .before .before .before .before .if1 .left) (c .before .before .before .before .if2 .left) (c .before .before .before .if4 .left) (omega (arith, c .before .before .before .before .before .shared-slice-known2 .given (a .at))) NotNumber
-    (sym (c .before .before .read-number .ensures .0) ∙ c .enum-told .given .1)))
+    (sym
+    (more (a .bytes .now) (a .at) (a .limit) (after-if1 .if1 .left) (after-if2 .if2 .left) (after-if4 .if4 .left)
+    (omega (arith, byte)) NotNumber (sym (after-read-number .read-number .ensures .0) ∙ c .enum-told .given .1)))
 
 read-number-returns-6 : (t : ℕ) → read-number-lts.Need-returns-6 (
   read-number-below t,
   read-number.Post,
 ) (read-number-at t) read-number.Post
 read-number-returns-6 t c =
-    let a = c .before .before .before .before .before .before .before .before .before .before .args in
+    let after-high = c .before .before in
+    let after-read-number = after-high .before .before in
+    let after-if4 = after-read-number .before in
+    let after-if2 = after-if4 .before in
+    let after-shared-slice-known2 = after-if2 .before in
+    let after-if1 = after-shared-slice-known2 .before in
+    let start = after-if1 .before .before in
+    let a = start .args in
+    let byte = after-shared-slice-known2 .shared-slice-known2 .given (a .at) in
     whole (a .bytes .now) (a .at) (a .limit)
-    (sym (more (a .bytes .now) (a .at) (a .limit) (c .before .before .before .before .before .before .before .before .if1 .left) (c .before .before .before .before .before .before .if2 .left) (c .before .before .before .before .before .if4 .left) (omega (arith, c .before .before .before .before .before .before .before .shared-slice-known2 .given (a .at))) (c .before .before .before .before .read-number .result)
-    (sym (c .before .before .before .before .read-number .ensures .0)) ∙ rw (c .before .before .high .given .1, eq-eqb _ _ (c .if5 .taken))))
+    (sym
+    (more (a .bytes .now) (a .at) (a .limit) (after-if1 .if1 .left) (after-if2 .if2 .left) (after-if4 .if4 .left)
+    (omega (arith, byte)) (after-read-number .read-number .result) (sym (after-read-number .read-number .ensures .0))
+    ∙ rw (after-high .high .given .1, eq-eqb _ _ (c .if5 .taken))))
 
 read-number-mul-t16 : (t : ℕ) → read-number-lts.Need-mul-t16 (
   read-number-below t,
   read-number.Post,
 ) (read-number-at t) read-number.Post
-read-number-mul-t16 t c = omega (arith, rw (c .before .before .high .given .1) at (c .before .before .before .before .read-number .ensures .1), c .before .before .before .before .before .before .before .shared-slice-known2 .given (c .before .before .before .before .before .before .before .before .before .before .args .at))
+read-number-mul-t16 t c =
+    let after-high = c .before .before in
+    let after-read-number = after-high .before .before in
+    let after-shared-slice-known2 = after-read-number .before .before .before in
+    let start = after-shared-slice-known2 .before .before .before in
+    let byte = after-shared-slice-known2 .shared-slice-known2 .given (start .args .at) in
+    omega (arith, rw (after-high .high .given .1) at (after-read-number .read-number .ensures .1), byte)
 
 read-number-add-t8 :
     (t : ℕ) →
@@ -157,17 +198,33 @@ read-number-add-t8 :
     (read-number-below t, read-number.Post)
     (read-number-at t)
     read-number.Post
-read-number-add-t8 t c = omega (arith, rw (c .before .before .high .given .1) at (c .before .before .before .before .read-number .ensures .1), c .before .before .before .before .before .before .before .shared-slice-known2 .given (c .before .before .before .before .before .before .before .before .before .before .args .at))
+read-number-add-t8 t c =
+    let after-high = c .before .before in
+    let after-read-number = after-high .before .before in
+    let after-shared-slice-known2 = after-read-number .before .before .before in
+    let start = after-shared-slice-known2 .before .before .before in
+    let byte = after-shared-slice-known2 .shared-slice-known2 .given (start .args .at) in
+    omega (arith, rw (after-high .high .given .1) at (after-read-number .read-number .ensures .1), byte)
 
 read-number-returns-7 : (t : ℕ) → read-number-lts.Need-returns-7 (
   read-number-below t,
   read-number.Post,
 ) (read-number-at t) read-number.Post
 read-number-returns-7 t c =
-    let a = c .before .before .before .before .before .before .before .before .before .before .args in
+    let after-high = c .before .before in
+    let after-read-number = after-high .before .before in
+    let after-if4 = after-read-number .before in
+    let after-if2 = after-if4 .before in
+    let after-shared-slice-known2 = after-if2 .before in
+    let after-if1 = after-shared-slice-known2 .before in
+    let start = after-if1 .before .before in
+    let a = start .args in
+    let byte = after-shared-slice-known2 .shared-slice-known2 .given (a .at) in
     whole (a .bytes .now) (a .at) (a .limit)
-    (sym (more (a .bytes .now) (a .at) (a .limit) (c .before .before .before .before .before .before .before .before .if1 .left) (c .before .before .before .before .before .before .if2 .left) (c .before .before .before .before .before .if4 .left) (omega (arith, c .before .before .before .before .before .before .before .shared-slice-known2 .given (a .at))) (c .before .before .before .before .read-number .result)
-    (sym (c .before .before .before .before .read-number .ensures .0)) ∙ rw (c .before .before .high .given .1, ne-eqb _ _ (c .if5 .left))))
+    (sym
+    (more (a .bytes .now) (a .at) (a .limit) (after-if1 .if1 .left) (after-if2 .if2 .left) (after-if4 .if4 .left)
+    (omega (arith, byte)) (after-read-number .read-number .result) (sym (after-read-number .read-number .ensures .0))
+    ∙ rw (after-high .high .given .1, ne-eqb _ _ (c .if5 .left))))
 
 pub +read-number-spec : {M : Type 1} → statement M
 +read-number-spec = close μ-read-number λ t. read-number-lts.spec (

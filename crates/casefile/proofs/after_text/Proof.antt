@@ -18,14 +18,21 @@ enum-told c = search needs
 
 returns : tie.Need-returns
 unfolding afterText
-returns c = sym (rw (sym (c .before .before .read-text .ensures .0) ∙ c .enum-told .given .1))
+returns c =
+    let after-read-text = c .before .before in
+    let enum-told-is = sym (after-read-text .read-text .ensures .0) ∙ c .enum-told .given .1 in
+    sym (rw (enum-told-is))
 
 add-result : tie.Need-add-result
 add-result c = omega (arith, rw (c .before .start .given .1) at (c .before .before .before .read-text .ensures .1))
 
 returns-2 : tie.Need-returns-2
 unfolding afterText
-returns-2 c = sym (rw (sym (c .before .before .before .read-text .ensures .0) ∙ c .before .start .given .1))
+returns-2 c =
+    let after-start = c .before in
+    let after-read-text = after-start .before .before in
+    let start-is = sym (after-read-text .read-text .ensures .0) ∙ after-start .start .given .1 in
+    sym (rw (start-is))
 
 pub after-text-spec : {M : Type 1} → statement M
 after-text-spec =

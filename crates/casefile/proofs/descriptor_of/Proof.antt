@@ -18,8 +18,12 @@ text-part-requires c κs = search needs
 returns : tie.Need-returns
 unfolding descriptorOf
 returns c =
-    let texts = c .before .before .before .before .args .texts .now in
-    c .text-part .ensures ∙ ap (textPart texts) (c .before .after-text2 .ensures ∙ ap (afterText texts) (c .before .before .after-text .ensures))
+    let after-after-text2 = c .before in
+    let after-after-text = after-after-text2 .before in
+    let start = after-after-text .before .before in
+    let texts = start .args .texts .now in
+    c .text-part .ensures
+    ∙ ap (textPart texts) (after-after-text2 .after-text2 .ensures ∙ ap (afterText texts) (after-after-text .after-text .ensures))
 
 pub descriptor-of-spec : {M : Type 1} → statement M
 descriptor-of-spec =

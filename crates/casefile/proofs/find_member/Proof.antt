@@ -1,4 +1,4 @@
--- `casefile::find_member` meets its contract. The loop's invariant: what the lookup finds from here on is what it finds from the start.
+-- `casefile::find_member` meets its contract. The invariant: the lookup finds from here on what it finds from the start.
 -- Assumes nothing.
 use Prim.Native.Nat.{_≤_}
 use native.Mathlib.Omega.{arith}
@@ -11,7 +11,8 @@ use Rattle.casefile.proofs.find_member.Statement.{statement}
 use Rattle.casefile.proofs.find_member.Tie as tie
 
 abbrev Inv-loop : tie.InvT-loop
-Inv-loop members count index kind at₀ last₀ left₀ at last left = (memberFound members index kind count 0 0 ≡ memberFound members index kind left last at) × (left ≤ count)
+Inv-loop members count index kind at₀ last₀ left₀ at last left =
+    (memberFound members index kind count 0 0 ≡ memberFound members index kind left last at) × (left ≤ count)
 
 abbrev μ-loop : tie.MeasureT-loop
 μ-loop members count index kind at₀ last₀ left₀ at last left = left
@@ -38,9 +39,11 @@ returns c =
     let after-loop-test = after-read-member .before in
     let after-loop = after-loop-test .before in
     let start = after-loop .before .before in
+    let enum-told-is = sym (after-read-member .read-member .ensures .0) ∙ after-enum-told .enum-told .given .1 in
     let a = start .args in
     let l = after-loop .loop in
-    sym (rw (l .inv .0, found-turn (a .members .now) (a .index) (a .kind) (l .left) (l .last) (l .at) (after-loop-test .loop-test .taken), sym (after-read-member .read-member .ensures .0) ∙ after-enum-told .enum-told .given .1))
+    let turn = found-turn (a .members .now) (a .index) (a .kind) (l .left) (l .last) (l .at) (after-loop-test .loop-test .taken) in
+    sym (rw (l .inv .0, turn, enum-told-is))
 
 sub-result : tie.Need-sub-result Inv-loop μ-loop
 sub-result c =
@@ -69,10 +72,11 @@ returns-2 c =
     let after-loop-test = after-read-member .before in
     let after-loop = after-loop-test .before in
     let start = after-loop .before .before in
+    let member-is = sym (after-read-member .read-member .ensures .0) ∙ after-member .member .given .1 in
     let a = start .args in
     let l = after-loop .loop in
     let turn = found-turn (a .members .now) (a .index) (a .kind) (l .left) (l .last) (l .at) (after-loop-test .loop-test .taken) in
-    sym (rw (l .inv .0, turn, sym (after-read-member .read-member .ensures .0) ∙ after-member .member .given .1, eq-eqb _ _ (after-if1 .if1 .taken), eq-eqb _ _ (after-if2 .if2 .taken)))
+    sym (rw (l .inv .0, turn, member-is, eq-eqb _ _ (after-if1 .if1 .taken), eq-eqb _ _ (after-if2 .if2 .taken)))
 
 slice-aggregate-result-2 : tie.Need-slice-aggregate-result-2 Inv-loop μ-loop
 slice-aggregate-result-2 c = search needs
@@ -86,10 +90,11 @@ returns-3 c =
     let after-loop-test = after-read-member .before in
     let after-loop = after-loop-test .before in
     let start = after-loop .before .before in
+    let member-is = sym (after-read-member .read-member .ensures .0) ∙ after-member .member .given .1 in
     let a = start .args in
     let l = after-loop .loop in
     let turn = found-turn (a .members .now) (a .index) (a .kind) (l .left) (l .last) (l .at) (after-loop-test .loop-test .taken) in
-    sym (rw (l .inv .0, turn, sym (after-read-member .read-member .ensures .0) ∙ after-member .member .given .1, eq-eqb _ _ (after-if1 .if1 .taken), ne-eqb _ _ (after-if2 .if2 .left)))
+    sym (rw (l .inv .0, turn, member-is, eq-eqb _ _ (after-if1 .if1 .taken), ne-eqb _ _ (after-if2 .if2 .left)))
 
 sub-left : tie.Need-sub-left Inv-loop μ-loop
 sub-left c = search needs
@@ -104,10 +109,11 @@ loop-again c =
     let after-loop-test = after-read-member .before in
     let after-loop = after-loop-test .before in
     let start = after-loop .before .before in
+    let member-is = sym (after-read-member .read-member .ensures .0) ∙ after-member .member .given .1 in
     let a = start .args in
     let l = after-loop .loop in
     let turn = found-turn (a .members .now) (a .index) (a .kind) (l .left) (l .last) (l .at) (after-loop-test .loop-test .taken) in
-    (l .inv .0 ∙ rw (turn, sym (after-read-member .read-member .ensures .0) ∙ after-member .member .given .1, ne-eqb _ _ (c .if1 .left)), search needs)
+    (l .inv .0 ∙ rw (turn, member-is, ne-eqb _ _ (c .if1 .left)), search needs)
 
 slice-aggregate-result-3 : tie.Need-slice-aggregate-result-3 Inv-loop μ-loop
 slice-aggregate-result-3 c = search needs

@@ -23,7 +23,11 @@ enum-told c = search needs
 
 returns-2 : tie.Need-returns-2
 unfolding caseOf placesIn
-returns-2 c = sym (rw (le-ltb _ _ (c .before .before .before .if1 .left), sym (c .before .before .read-number .ensures .0) ∙ c .enum-told .given .1))
+returns-2 c =
+    let after-read-number = c .before .before in
+    let after-if1 = after-read-number .before in
+    let enum-told-is = sym (after-read-number .read-number .ensures .0) ∙ c .enum-told .given .1 in
+    sym (rw (le-ltb _ _ (after-if1 .if1 .left), enum-told-is))
 
 read-number-requires-2 : tie.Need-read-number-requires-2
 read-number-requires-2 c κs = search needs
@@ -41,7 +45,9 @@ returns-3 c =
     let after-flags = after-read-number2 .before .before in
     let after-read-number = after-flags .before .before in
     let after-if1 = after-read-number .before in
-    sym (rw (le-ltb _ _ (after-if1 .if1 .left), sym (after-read-number .read-number .ensures .0) ∙ after-flags .flags .given .1, sym (after-read-number2 .read-number2 .ensures .0) ∙ c .enum-told2 .given .1))
+    let flags-is = sym (after-read-number .read-number .ensures .0) ∙ after-flags .flags .given .1 in
+    let enum-told2-is = sym (after-read-number2 .read-number2 .ensures .0) ∙ c .enum-told2 .given .1 in
+    sym (rw (le-ltb _ _ (after-if1 .if1 .left), flags-is, enum-told2-is))
 
 read-text-requires : tie.Need-read-text-requires
 read-text-requires c κs = search needs
@@ -61,7 +67,10 @@ returns-4 c =
     let after-flags = after-read-number2 .before .before in
     let after-read-number = after-flags .before .before in
     let after-if1 = after-read-number .before in
-    sym (rw (le-ltb _ _ (after-if1 .if1 .left), sym (after-read-number .read-number .ensures .0) ∙ after-flags .flags .given .1, sym (after-read-number2 .read-number2 .ensures .0) ∙ after-fault .fault .given .1, sym (after-read-text .read-text .ensures .0) ∙ c .enum-told3 .given .1))
+    let flags-is = sym (after-read-number .read-number .ensures .0) ∙ after-flags .flags .given .1 in
+    let fault-is = sym (after-read-number2 .read-number2 .ensures .0) ∙ after-fault .fault .given .1 in
+    let enum-told3-is = sym (after-read-text .read-text .ensures .0) ∙ c .enum-told3 .given .1 in
+    sym (rw (le-ltb _ _ (after-if1 .if1 .left), flags-is, fault-is, enum-told3-is))
 
 add-signature-at : tie.Need-add-signature-at
 add-signature-at c = omega (arith, rw (c .before .code .given .1) at (c .before .before .before .read-text .ensures .1))
@@ -86,7 +95,11 @@ returns-5 c =
     let after-flags = after-read-number2 .before .before in
     let after-read-number = after-flags .before .before in
     let after-if1 = after-read-number .before in
-    sym (rw (le-ltb _ _ (after-if1 .if1 .left), sym (after-read-number .read-number .ensures .0) ∙ after-flags .flags .given .1, sym (after-read-number2 .read-number2 .ensures .0) ∙ after-fault .fault .given .1, sym (after-read-text .read-text .ensures .0) ∙ after-code .code .given .1, sym (after-read-text2 .read-text2 .ensures .0) ∙ c .enum-told4 .given .1))
+    let flags-is = sym (after-read-number .read-number .ensures .0) ∙ after-flags .flags .given .1 in
+    let fault-is = sym (after-read-number2 .read-number2 .ensures .0) ∙ after-fault .fault .given .1 in
+    let code-is = sym (after-read-text .read-text .ensures .0) ∙ after-code .code .given .1 in
+    let enum-told4-is = sym (after-read-text2 .read-text2 .ensures .0) ∙ c .enum-told4 .given .1 in
+    sym (rw (le-ltb _ _ (after-if1 .if1 .left), flags-is, fault-is, code-is, enum-told4-is))
 
 add-read-tables : tie.Need-add-read-tables
 add-read-tables c = omega (arith, rw (c .before .signature .given .1) at (c .before .before .before .read-text2 .ensures .1))
@@ -114,7 +127,12 @@ returns-6 c =
     let after-flags = after-read-number2 .before .before in
     let after-read-number = after-flags .before .before in
     let after-if1 = after-read-number .before in
-    sym (rw (le-ltb _ _ (after-if1 .if1 .left), sym (after-read-number .read-number .ensures .0) ∙ after-flags .flags .given .1, sym (after-read-number2 .read-number2 .ensures .0) ∙ after-fault .fault .given .1, sym (after-read-text .read-text .ensures .0) ∙ after-code .code .given .1, sym (after-read-text2 .read-text2 .ensures .0) ∙ after-signature .signature .given .1, sym (after-read-tables .read-tables .ensures) ∙ after-tables .tables .given .1))
+    let flags-is = sym (after-read-number .read-number .ensures .0) ∙ after-flags .flags .given .1 in
+    let fault-is = sym (after-read-number2 .read-number2 .ensures .0) ∙ after-fault .fault .given .1 in
+    let code-is = sym (after-read-text .read-text .ensures .0) ∙ after-code .code .given .1 in
+    let signature-is = sym (after-read-text2 .read-text2 .ensures .0) ∙ after-signature .signature .given .1 in
+    let tables-is = sym (after-read-tables .read-tables .ensures) ∙ after-tables .tables .given .1 in
+    sym (rw (le-ltb _ _ (after-if1 .if1 .left), flags-is, fault-is, code-is, signature-is, tables-is))
 
 returns-7 : tie.Need-returns-7
 unfolding caseOf placesIn
@@ -130,7 +148,12 @@ returns-7 c =
     let after-flags = after-read-number2 .before .before in
     let after-read-number = after-flags .before .before in
     let after-if1 = after-read-number .before in
-    sym (rw (le-ltb _ _ (after-if1 .if1 .left), sym (after-read-number .read-number .ensures .0) ∙ after-flags .flags .given .1, sym (after-read-number2 .read-number2 .ensures .0) ∙ after-fault .fault .given .1, sym (after-read-text .read-text .ensures .0) ∙ after-code .code .given .1, sym (after-read-text2 .read-text2 .ensures .0) ∙ after-signature .signature .given .1, sym (after-read-tables .read-tables .ensures) ∙ after-wrong .wrong .given .1))
+    let flags-is = sym (after-read-number .read-number .ensures .0) ∙ after-flags .flags .given .1 in
+    let fault-is = sym (after-read-number2 .read-number2 .ensures .0) ∙ after-fault .fault .given .1 in
+    let code-is = sym (after-read-text .read-text .ensures .0) ∙ after-code .code .given .1 in
+    let signature-is = sym (after-read-text2 .read-text2 .ensures .0) ∙ after-signature .signature .given .1 in
+    let wrong-is = sym (after-read-tables .read-tables .ensures) ∙ after-wrong .wrong .given .1 in
+    sym (rw (le-ltb _ _ (after-if1 .if1 .left), flags-is, fault-is, code-is, signature-is, wrong-is))
 
 pub read-case-spec : {M : Type 1} → statement M
 read-case-spec =

@@ -19,11 +19,18 @@ enum-told c = search needs
 
 returns : tie.Need-returns
 unfolding memberAt
-returns c = (sym (rw (sym (c .before .before .read-number .ensures .0) ∙ c .enum-told .given .1)), tt)
+returns c =
+    let after-read-number = c .before .before in
+    let enum-told-is = sym (after-read-number .read-number .ensures .0) ∙ c .enum-told .given .1 in
+    (sym (rw (enum-told-is)), tt)
 
 returns-2 : tie.Need-returns-2
 unfolding memberAt
-returns-2 c = (sym (rw (sym (c .before .before .before .before .read-number .ensures .0) ∙ c .before .before .index .given .1, le-ltb _ _ (c .if1 .taken))), tt)
+returns-2 c =
+    let after-index = c .before .before in
+    let after-read-number = after-index .before .before in
+    let index-is = sym (after-read-number .read-number .ensures .0) ∙ after-index .index .given .1 in
+    (sym (rw (index-is, le-ltb _ _ (c .if1 .taken))), tt)
 
 read-number-requires-2 : tie.Need-read-number-requires-2
 read-number-requires-2 c κs = search needs
@@ -41,7 +48,9 @@ returns-3 c =
     let after-if1 = after-read-number2 .before in
     let after-index = after-if1 .before .before in
     let after-read-number = after-index .before .before in
-    (sym (rw (sym (after-read-number .read-number .ensures .0) ∙ after-index .index .given .1, lt-ltb _ _ (after-if1 .if1 .left), sym (after-read-number2 .read-number2 .ensures .0) ∙ c .enum-told2 .given .1)), tt)
+    let index-is = sym (after-read-number .read-number .ensures .0) ∙ after-index .index .given .1 in
+    let enum-told2-is = sym (after-read-number2 .read-number2 .ensures .0) ∙ c .enum-told2 .given .1 in
+    (sym (rw (index-is, lt-ltb _ _ (after-if1 .if1 .left), enum-told2-is)), tt)
 
 returns-4 : tie.Need-returns-4
 unfolding memberAt
@@ -51,7 +60,9 @@ returns-4 c =
     let after-if1 = after-read-number2 .before in
     let after-index = after-if1 .before .before in
     let after-read-number = after-index .before .before in
-    (sym (rw (sym (after-read-number .read-number .ensures .0) ∙ after-index .index .given .1, lt-ltb _ _ (after-if1 .if1 .left), sym (after-read-number2 .read-number2 .ensures .0) ∙ after-kind .kind .given .1, lt-leb _ _ (c .if2 .taken))), tt)
+    let index-is = sym (after-read-number .read-number .ensures .0) ∙ after-index .index .given .1 in
+    let kind-is = sym (after-read-number2 .read-number2 .ensures .0) ∙ after-kind .kind .given .1 in
+    (sym (rw (index-is, lt-ltb _ _ (after-if1 .if1 .left), kind-is, lt-leb _ _ (c .if2 .taken))), tt)
 
 read-texts-requires : tie.Need-read-texts-requires
 read-texts-requires c κs = search needs
@@ -73,11 +84,14 @@ returns-5 c =
     let after-if1 = after-read-number2 .before in
     let after-index = after-if1 .before .before in
     let after-read-number = after-index .before .before in
+    let index-is = sym (after-read-number .read-number .ensures .0) ∙ after-index .index .given .1 in
+    let kind-is = sym (after-read-number2 .read-number2 .ensures .0) ∙ after-kind .kind .given .1 in
+    let next-is = sym (after-read-texts .read-texts .ensures .0) ∙ after-next .next .given .1 in
     let indexes = rw (after-index .index .given .1) at (after-read-number .read-number .ensures .1) in
     let kinds = rw (after-kind .kind .given .1) at (after-read-number2 .read-number2 .ensures .1) in
     let run = rw (after-next .next .given .1) at (after-read-texts .read-texts .ensures .1) in (
       sym
-          (rw (sym (after-read-number .read-number .ensures .0) ∙ after-index .index .given .1, lt-ltb _ _ (after-if1 .if1 .left), sym (after-read-number2 .read-number2 .ensures .0) ∙ after-kind .kind .given .1, le-leb _ _ (after-if2 .if2 .left), sym (after-read-texts .read-texts .ensures .0) ∙ after-next .next .given .1)),
+          (rw (index-is, lt-ltb _ _ (after-if1 .if1 .left), kind-is, le-leb _ _ (after-if2 .if2 .left), next-is)),
       (omega (arith, indexes .1, kinds .1), run .0, run .1 (kinds .2)),
     )
 
@@ -92,7 +106,10 @@ returns-6 c =
     let after-if1 = after-read-number2 .before in
     let after-index = after-if1 .before .before in
     let after-read-number = after-index .before .before in
-    (sym (rw (sym (after-read-number .read-number .ensures .0) ∙ after-index .index .given .1, lt-ltb _ _ (after-if1 .if1 .left), sym (after-read-number2 .read-number2 .ensures .0) ∙ after-kind .kind .given .1, le-leb _ _ (after-if2 .if2 .left), sym (after-read-texts .read-texts .ensures .0) ∙ after-wrong .wrong .given .1)), tt)
+    let index-is = sym (after-read-number .read-number .ensures .0) ∙ after-index .index .given .1 in
+    let kind-is = sym (after-read-number2 .read-number2 .ensures .0) ∙ after-kind .kind .given .1 in
+    let wrong-is = sym (after-read-texts .read-texts .ensures .0) ∙ after-wrong .wrong .given .1 in
+    (sym (rw (index-is, lt-ltb _ _ (after-if1 .if1 .left), kind-is, le-leb _ _ (after-if2 .if2 .left), wrong-is)), tt)
 
 pub read-member-spec : {M : Type 1} → statement M
 read-member-spec =

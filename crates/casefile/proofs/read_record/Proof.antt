@@ -18,7 +18,10 @@ enum-told c = search needs
 
 returns : tie.Need-returns
 unfolding recordAt
-returns c = (sym (rw (sym (c .before .before .read-number .ensures .0) ∙ c .enum-told .given .1)), tt)
+returns c =
+    let after-read-number = c .before .before in
+    let enum-told-is = sym (after-read-number .read-number .ensures .0) ∙ c .enum-told .given .1 in
+    (sym (rw (enum-told-is)), tt)
 
 read-number-requires-2 : tie.Need-read-number-requires-2
 read-number-requires-2 c κs = search needs
@@ -35,7 +38,9 @@ returns-2 c =
     let after-read-number2 = c .before .before in
     let after-start = after-read-number2 .before .before in
     let after-read-number = after-start .before .before in
-    (sym (rw (sym (after-read-number .read-number .ensures .0) ∙ after-start .start .given .1, sym (after-read-number2 .read-number2 .ensures .0) ∙ c .enum-told2 .given .1)), tt)
+    let start-is = sym (after-read-number .read-number .ensures .0) ∙ after-start .start .given .1 in
+    let enum-told2-is = sym (after-read-number2 .read-number2 .ensures .0) ∙ c .enum-told2 .given .1 in
+    (sym (rw (start-is, enum-told2-is)), tt)
 
 read-number-requires-3 : tie.Need-read-number-requires-3
 read-number-requires-3 c κs = search needs
@@ -54,7 +59,10 @@ returns-3 c =
     let after-read-number2 = after-length .before .before in
     let after-start = after-read-number2 .before .before in
     let after-read-number = after-start .before .before in
-    (sym (rw (sym (after-read-number .read-number .ensures .0) ∙ after-start .start .given .1, sym (after-read-number2 .read-number2 .ensures .0) ∙ after-length .length .given .1, sym (after-read-number3 .read-number3 .ensures .0) ∙ c .enum-told3 .given .1)), tt)
+    let start-is = sym (after-read-number .read-number .ensures .0) ∙ after-start .start .given .1 in
+    let length-is = sym (after-read-number2 .read-number2 .ensures .0) ∙ after-length .length .given .1 in
+    let enum-told3-is = sym (after-read-number3 .read-number3 .ensures .0) ∙ c .enum-told3 .given .1 in
+    (sym (rw (start-is, length-is, enum-told3-is)), tt)
 
 read-text-requires : tie.Need-read-text-requires
 read-text-requires c κs = search needs
@@ -75,7 +83,11 @@ returns-4 c =
     let after-read-number2 = after-length .before .before in
     let after-start = after-read-number2 .before .before in
     let after-read-number = after-start .before .before in
-    (sym (rw (sym (after-read-number .read-number .ensures .0) ∙ after-start .start .given .1, sym (after-read-number2 .read-number2 .ensures .0) ∙ after-length .length .given .1, sym (after-read-number3 .read-number3 .ensures .0) ∙ after-slot .slot .given .1, sym (after-read-text .read-text .ensures .0) ∙ c .enum-told4 .given .1)), tt)
+    let start-is = sym (after-read-number .read-number .ensures .0) ∙ after-start .start .given .1 in
+    let length-is = sym (after-read-number2 .read-number2 .ensures .0) ∙ after-length .length .given .1 in
+    let slot-is = sym (after-read-number3 .read-number3 .ensures .0) ∙ after-slot .slot .given .1 in
+    let enum-told4-is = sym (after-read-text .read-text .ensures .0) ∙ c .enum-told4 .given .1 in
+    (sym (rw (start-is, length-is, slot-is, enum-told4-is)), tt)
 
 add-t15 : tie.Need-add-t15
 add-t15 c = omega (arith, rw (c .before .name .given .1) at (c .before .before .before .read-text .ensures .1))
@@ -91,11 +103,15 @@ returns-5 c =
     let after-read-number2 = after-length .before .before in
     let after-start = after-read-number2 .before .before in
     let after-read-number = after-start .before .before in
+    let start-is = sym (after-read-number .read-number .ensures .0) ∙ after-start .start .given .1 in
+    let length-is = sym (after-read-number2 .read-number2 .ensures .0) ∙ after-length .length .given .1 in
+    let slot-is = sym (after-read-number3 .read-number3 .ensures .0) ∙ after-slot .slot .given .1 in
+    let name-is = sym (after-read-text .read-text .ensures .0) ∙ after-name .name .given .1 in
     let starts = rw (after-start .start .given .1) at (after-read-number .read-number .ensures .1) in
     let lengths = rw (after-length .length .given .1) at (after-read-number2 .read-number2 .ensures .1) in
     let slots = rw (after-slot .slot .given .1) at (after-read-number3 .read-number3 .ensures .1) in
     let names = rw (after-name .name .given .1) at (after-read-text .read-text .ensures .1) in (
-      sym (rw (sym (after-read-number .read-number .ensures .0) ∙ after-start .start .given .1, sym (after-read-number2 .read-number2 .ensures .0) ∙ after-length .length .given .1, sym (after-read-number3 .read-number3 .ensures .0) ∙ after-slot .slot .given .1, sym (after-read-text .read-text .ensures .0) ∙ after-name .name .given .1)),
+      sym (rw (start-is, length-is, slot-is, name-is)),
       (starts .0, lengths .0, slots .0, names .0, omega (arith, starts .1, lengths .1, slots .1, names .1), refl, names .2),
     )
 

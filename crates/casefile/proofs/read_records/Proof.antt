@@ -1,4 +1,4 @@
--- `casefile::read_records` meets its contract. The loop's invariant: what the records from here on answer is what all of them answer.
+-- `casefile::read_records` meets its contract. The invariant: the records from here on answer what all of them answer.
 -- Assumes nothing.
 use Prim.Native.Nat.{_≤_}
 use native.Mathlib.Omega.{arith}
@@ -13,7 +13,8 @@ use Rattle.casefile.proofs.read_records.Statement.{statement}
 use Rattle.casefile.proofs.read_records.Tie as tie
 
 abbrev Inv-loop : tie.InvT-loop
-Inv-loop bytes from count at₀ left₀ at left = (runBy (recordsThen count ended) bytes from ≡ runBy (recordsThen left ended) bytes at) × (left ≤ count)
+Inv-loop bytes from count at₀ left₀ at left =
+    (runBy (recordsThen count ended) bytes from ≡ runBy (recordsThen left ended) bytes at) × (left ≤ count)
 
 abbrev μ-loop : tie.MeasureT-loop
 μ-loop bytes from count at₀ left₀ at left = left
@@ -37,10 +38,11 @@ returns c =
     let after-loop-test = after-read-record .before in
     let after-loop = after-loop-test .before in
     let start = after-loop .before .before in
+    let wrong-is = sym (after-read-record .read-record .ensures .0) ∙ after-wrong .wrong .given .1 in
     let bytes = start .args .bytes .now in
     let l = after-loop .loop in
     kept (λ (r : Run). runWithin (length bytes) (start .args .from) r)
-    (sym (rw (l .inv .0, records-turn bytes (l .left) (l .at) (after-loop-test .loop-test .taken), sym (after-read-record .read-record .ensures .0) ∙ after-wrong .wrong .given .1)))
+    (sym (rw (l .inv .0, records-turn bytes (l .left) (l .at) (after-loop-test .loop-test .taken), wrong-is)))
     (run-within (recordsThen (start .args .count) ended) bytes (start .args .from))
 
 sub-left : tie.Need-sub-left Inv-loop μ-loop
@@ -56,9 +58,10 @@ loop-again c =
     let after-loop-test = after-read-record .before in
     let after-loop = after-loop-test .before in
     let start = after-loop .before .before in
+    let place-is = sym (after-read-record .read-record .ensures .0) ∙ after-place .place .given .1 in
     let bytes = start .args .bytes .now in
     let l = after-loop .loop in
-    (l .inv .0 ∙ rw (records-turn bytes (l .left) (l .at) (after-loop-test .loop-test .taken), sym (after-read-record .read-record .ensures .0) ∙ after-place .place .given .1), search needs)
+    (l .inv .0 ∙ rw (records-turn bytes (l .left) (l .at) (after-loop-test .loop-test .taken), place-is), search needs)
 
 returns-2 : tie.Need-returns-2 Inv-loop μ-loop
 unfolding recordsThen runBy
@@ -66,7 +69,8 @@ returns-2 c =
     let bytes = c .before .before .before .args .bytes .now in
     let none : c .before .loop .left ≡ 0 = omega arith in
     kept (λ (r : Run). runWithin (length bytes) (c .before .before .before .args .from) r)
-    (sym (rw (c .before .loop .inv .0, none))) (run-within (recordsThen (c .before .before .before .args .count) ended) bytes (c .before .before .before .args .from))
+    (sym (rw (c .before .loop .inv .0, none)))
+    (run-within (recordsThen (c .before .before .before .args .count) ended) bytes (c .before .before .before .args .from))
 
 pub read-records-spec : {M : Type 1} → statement M
 read-records-spec =

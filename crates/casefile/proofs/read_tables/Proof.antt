@@ -19,7 +19,10 @@ enum-told c = search needs
 
 returns : tie.Need-returns
 unfolding tablesAt
-returns c = sym (rw (sym (c .before .before .read-number .ensures .0) ∙ c .enum-told .given .1))
+returns c =
+    let after-read-number = c .before .before in
+    let enum-told-is = sym (after-read-number .read-number .ensures .0) ∙ c .enum-told .given .1 in
+    sym (rw (enum-told-is))
 
 read-members-requires : tie.Need-read-members-requires
 read-members-requires c κs = search needs
@@ -37,7 +40,9 @@ returns-2 c =
     let after-read-members = after-member-run2 .before .before in
     let after-member-count = after-read-members .before .before in
     let after-read-number = after-member-count .before .before in
-    sym (rw (sym (after-read-number .read-number .ensures .0) ∙ after-member-count .member-count .given .1, sym (after-read-members .read-members .ensures .0) ∙ after-member-run2 .member-run2 .given .1))
+    let member-count-is = sym (after-read-number .read-number .ensures .0) ∙ after-member-count .member-count .given .1 in
+    let member-run2-is = sym (after-read-members .read-members .ensures .0) ∙ after-member-run2 .member-run2 .given .1 in
+    sym (rw (member-count-is, member-run2-is))
 
 read-number-requires-2 : tie.Need-read-number-requires-2
 read-number-requires-2 c κs = search needs
@@ -56,7 +61,10 @@ returns-3 c =
     let after-read-members = after-member-run .before .before in
     let after-member-count = after-read-members .before .before in
     let after-read-number = after-member-count .before .before in
-    sym (rw (sym (after-read-number .read-number .ensures .0) ∙ after-member-count .member-count .given .1, sym (after-read-members .read-members .ensures .0) ∙ after-member-run .member-run .given .1, sym (after-read-number2 .read-number2 .ensures .0) ∙ c .enum-told2 .given .1))
+    let member-count-is = sym (after-read-number .read-number .ensures .0) ∙ after-member-count .member-count .given .1 in
+    let member-run-is = sym (after-read-members .read-members .ensures .0) ∙ after-member-run .member-run .given .1 in
+    let enum-told2-is = sym (after-read-number2 .read-number2 .ensures .0) ∙ c .enum-told2 .given .1 in
+    sym (rw (member-count-is, member-run-is, enum-told2-is))
 
 read-records-requires : tie.Need-read-records-requires
 read-records-requires c κs = search needs
@@ -78,7 +86,11 @@ returns-4 c =
     let after-read-members = after-member-run .before .before in
     let after-member-count = after-read-members .before .before in
     let after-read-number = after-member-count .before .before in
-    sym (rw (sym (after-read-number .read-number .ensures .0) ∙ after-member-count .member-count .given .1, sym (after-read-members .read-members .ensures .0) ∙ after-member-run .member-run .given .1, sym (after-read-number2 .read-number2 .ensures .0) ∙ after-record-count .record-count .given .1, sym (after-read-records .read-records .ensures .0) ∙ after-record-run2 .record-run2 .given .1))
+    let member-count-is = sym (after-read-number .read-number .ensures .0) ∙ after-member-count .member-count .given .1 in
+    let member-run-is = sym (after-read-members .read-members .ensures .0) ∙ after-member-run .member-run .given .1 in
+    let record-count-is = sym (after-read-number2 .read-number2 .ensures .0) ∙ after-record-count .record-count .given .1 in
+    let record-run2-is = sym (after-read-records .read-records .ensures .0) ∙ after-record-run2 .record-run2 .given .1 in
+    sym (rw (member-count-is, member-run-is, record-count-is, record-run2-is))
 
 returns-5 : tie.Need-returns-5
 unfolding tablesAt
@@ -91,8 +103,12 @@ returns-5 c =
     let after-read-members = after-member-run .before .before in
     let after-member-count = after-read-members .before .before in
     let after-read-number = after-member-count .before .before in
+    let member-count-is = sym (after-read-number .read-number .ensures .0) ∙ after-member-count .member-count .given .1 in
+    let member-run-is = sym (after-read-members .read-members .ensures .0) ∙ after-member-run .member-run .given .1 in
+    let record-count-is = sym (after-read-number2 .read-number2 .ensures .0) ∙ after-record-count .record-count .given .1 in
+    let record-run-is = sym (after-read-records .read-records .ensures .0) ∙ after-record-run .record-run .given .1 in
     let past = lt-ltb _ _ (c .if1 .taken) in
-    sym (rw (sym (after-read-number .read-number .ensures .0) ∙ after-member-count .member-count .given .1, sym (after-read-members .read-members .ensures .0) ∙ after-member-run .member-run .given .1, sym (after-read-number2 .read-number2 .ensures .0) ∙ after-record-count .record-count .given .1, sym (after-read-records .read-records .ensures .0) ∙ after-record-run .record-run .given .1, past))
+    sym (rw (member-count-is, member-run-is, record-count-is, record-run-is, past))
 
 sub-t19 : tie.Need-sub-t19
 sub-t19 c =
@@ -101,7 +117,10 @@ sub-t19 c =
     omega (arith, rw (after-member-run .member-run .given .1) at (after-read-members .read-members .ensures .1) .0)
 
 sub-t21 : tie.Need-sub-t21
-sub-t21 c = omega (arith, rw (c .before .before .record-run .given .1) at (c .before .before .before .before .read-records .ensures .1) .0)
+sub-t21 c =
+    let after-record-run = c .before .before in
+    let after-read-records = after-record-run .before .before in
+    omega (arith, rw (after-record-run .record-run .given .1) at (after-read-records .read-records .ensures .1) .0)
 
 returns-6 : tie.Need-returns-6
 unfolding tablesAt
@@ -114,8 +133,12 @@ returns-6 c =
     let after-read-members = after-member-run .before .before in
     let after-member-count = after-read-members .before .before in
     let after-read-number = after-member-count .before .before in
+    let member-count-is = sym (after-read-number .read-number .ensures .0) ∙ after-member-count .member-count .given .1 in
+    let member-run-is = sym (after-read-members .read-members .ensures .0) ∙ after-member-run .member-run .given .1 in
+    let record-count-is = sym (after-read-number2 .read-number2 .ensures .0) ∙ after-record-count .record-count .given .1 in
+    let record-run-is = sym (after-read-records .read-records .ensures .0) ∙ after-record-run .record-run .given .1 in
     let whole = le-ltb _ _ (c .if1 .left) in
-    sym (rw (sym (after-read-number .read-number .ensures .0) ∙ after-member-count .member-count .given .1, sym (after-read-members .read-members .ensures .0) ∙ after-member-run .member-run .given .1, sym (after-read-number2 .read-number2 .ensures .0) ∙ after-record-count .record-count .given .1, sym (after-read-records .read-records .ensures .0) ∙ after-record-run .record-run .given .1, whole))
+    sym (rw (member-count-is, member-run-is, record-count-is, record-run-is, whole))
 
 pub read-tables-spec : {M : Type 1} → statement M
 read-tables-spec =

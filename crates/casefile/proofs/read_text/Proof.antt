@@ -22,7 +22,10 @@ enum-told c = search needs
 
 returns : tie.Need-returns
 unfolding textAt
-returns c = (sym (rw (sym (c .before .before .read-number .ensures .0) ∙ c .enum-told .given .1)), tt)
+returns c =
+    let after-read-number = c .before .before in
+    let enum-told-is = sym (after-read-number .read-number .ensures .0) ∙ c .enum-told .given .1 in
+    (sym (rw (enum-told-is)), tt)
 
 sub-if1 : tie.Need-sub-if1
 sub-if1 c = omega (arith, rw (c .before .length .given .1) at (c .before .before .before .read-number .ensures .1))
@@ -30,13 +33,21 @@ sub-if1 c = omega (arith, rw (c .before .length .given .1) at (c .before .before
 returns-2 : tie.Need-returns-2
 unfolding textAt
 returns-2 c =
-    let a = c .before .before .before .before .before .before .args in
+    let after-length = c .before .before in
+    let after-read-number = after-length .before .before in
+    let start = after-read-number .before .before in
+    let length-is = sym (after-read-number .read-number .ensures .0) ∙ after-length .length .given .1 in
+    let a = start .args in
     kept (λ (t : Text). textWithin (length (a .bytes .now)) (a .at) t)
-    (sym (rw (sym (c .before .before .before .before .read-number .ensures .0) ∙ c .before .before .length .given .1, le-leb _ _ (c .if1 .taken)))) (text-within (a .bytes .now) (a .at))
+    (sym (rw (length-is, le-leb _ _ (c .if1 .taken)))) (text-within (a .bytes .now) (a .at))
 
 returns-3 : tie.Need-returns-3
 unfolding textAt
-returns-3 c = (sym (rw (sym (c .before .before .before .before .read-number .ensures .0) ∙ c .before .before .length .given .1, lt-leb _ _ (c .if1 .left))), tt)
+returns-3 c =
+    let after-length = c .before .before in
+    let after-read-number = after-length .before .before in
+    let length-is = sym (after-read-number .read-number .ensures .0) ∙ after-length .length .given .1 in
+    (sym (rw (length-is, lt-leb _ _ (c .if1 .left))), tt)
 
 pub read-text-spec : {M : Type 1} → statement M
 read-text-spec =

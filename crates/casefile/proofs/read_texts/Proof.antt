@@ -21,7 +21,10 @@ enum-told c = search needs
 
 returns : tie.Need-returns
 unfolding runBy
-returns c = (sym (rw (sym (c .before .before .read-text .ensures .0) ∙ c .enum-told .given .1)), tt)
+returns c =
+    let after-read-text = c .before .before in
+    let enum-told-is = sym (after-read-text .read-text .ensures .0) ∙ c .enum-told .given .1 in
+    (sym (rw (enum-told-is)), tt)
 
 add-name-at : tie.Need-add-name-at
 add-name-at c = omega (arith, rw (c .before .class .given .1) at (c .before .before .before .read-text .ensures .1))
@@ -41,7 +44,9 @@ returns-2 c =
     let after-read-text2 = c .before .before in
     let after-class = after-read-text2 .before .before in
     let after-read-text = after-class .before .before in
-    (sym (rw (sym (after-read-text .read-text .ensures .0) ∙ after-class .class .given .1, sym (after-read-text2 .read-text2 .ensures .0) ∙ c .enum-told2 .given .1)), tt)
+    let class-is = sym (after-read-text .read-text .ensures .0) ∙ after-class .class .given .1 in
+    let enum-told2-is = sym (after-read-text2 .read-text2 .ensures .0) ∙ c .enum-told2 .given .1 in
+    (sym (rw (class-is, enum-told2-is)), tt)
 
 add-descriptor-at : tie.Need-add-descriptor-at
 add-descriptor-at c = omega (arith, rw (c .before .name .given .1) at (c .before .before .before .read-text2 .ensures .1))
@@ -63,7 +68,10 @@ returns-3 c =
     let after-read-text2 = after-name .before .before in
     let after-class = after-read-text2 .before .before in
     let after-read-text = after-class .before .before in
-    (sym (rw (sym (after-read-text .read-text .ensures .0) ∙ after-class .class .given .1, sym (after-read-text2 .read-text2 .ensures .0) ∙ after-name .name .given .1, sym (after-read-text3 .read-text3 .ensures .0) ∙ c .enum-told3 .given .1)), tt)
+    let class-is = sym (after-read-text .read-text .ensures .0) ∙ after-class .class .given .1 in
+    let name-is = sym (after-read-text2 .read-text2 .ensures .0) ∙ after-name .name .given .1 in
+    let enum-told3-is = sym (after-read-text3 .read-text3 .ensures .0) ∙ c .enum-told3 .given .1 in
+    (sym (rw (class-is, name-is, enum-told3-is)), tt)
 
 add-t14 : tie.Need-add-t14
 add-t14 c = omega (arith, rw (c .before .descriptor .given .1) at (c .before .before .before .read-text3 .ensures .1))
@@ -78,9 +86,12 @@ returns-4 c =
     let after-class = after-read-text2 .before .before in
     let after-read-text = after-class .before .before in
     let start = after-read-text .before .before in
+    let class-is = sym (after-read-text .read-text .ensures .0) ∙ after-class .class .given .1 in
+    let name-is = sym (after-read-text2 .read-text2 .ensures .0) ∙ after-name .name .given .1 in
+    let descriptor-is = sym (after-read-text3 .read-text3 .ensures .0) ∙ after-descriptor .descriptor .given .1 in
     let a = start .args in
     kept (λ (r : Run). runWithin (length (a .bytes .now)) (a .at) r)
-    (sym (rw (sym (after-read-text .read-text .ensures .0) ∙ after-class .class .given .1, sym (after-read-text2 .read-text2 .ensures .0) ∙ after-name .name .given .1, sym (after-read-text3 .read-text3 .ensures .0) ∙ after-descriptor .descriptor .given .1)))
+    (sym (rw (class-is, name-is, descriptor-is)))
     (run-within (threeTexts ended) (a .bytes .now) (a .at))
 
 pub read-texts-spec : {M : Type 1} → statement M

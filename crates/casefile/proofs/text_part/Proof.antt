@@ -22,7 +22,11 @@ slice-aggregate-result c = search needs
 
 returns : tie.Need-returns
 unfolding textPart
-returns c = sym (rw (sym (c .before .before .before .read-text .ensures .0) ∙ c .before .enum-told .given .1))
+returns c =
+    let after-enum-told = c .before in
+    let after-read-text = after-enum-told .before .before in
+    let enum-told-is = sym (after-read-text .read-text .ensures .0) ∙ after-enum-told .enum-told .given .1 in
+    sym (rw (enum-told-is))
 
 add-end : tie.Need-add-end
 add-end c = omega (arith, rw (c .before .start .given .1) at (c .before .before .before .read-text .ensures .1))
@@ -38,7 +42,11 @@ part-result-end c = omega (arith, rw (c .before .start .given .1) at (c .before 
 
 returns-2 : tie.Need-returns-2
 unfolding textPart
-returns-2 c = simp (sym (c .before .before .before .before .read-text .ensures .0) ∙ c .before .before .start .given .1, add-sub-cancel-left)
+returns-2 c =
+    let after-start = c .before .before in
+    let after-read-text = after-start .before .before in
+    let start-is = sym (after-read-text .read-text .ensures .0) ∙ after-start .start .given .1 in
+    simp (start-is, add-sub-cancel-left)
 
 pub text-part-spec : {M : Type 1} → statement M
 text-part-spec =
