@@ -2,3 +2,5 @@ pub mod Branch
 pub mod Descriptor
 pub mod Extent
 pub mod Format
+pub mod Machine
+pub mod Stack

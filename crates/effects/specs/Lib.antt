@@ -1,0 +1,3 @@
+pub mod Depth
+pub mod Lookup
+pub mod Rows

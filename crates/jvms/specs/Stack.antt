@@ -1,0 +1,330 @@
+-- The operand stack of JVMS 6.5: for every opcode that is modelled or dereferences, its operands and its results, by the names
+-- that JVMS writes, bottom first as JVMS draws them, and the locals that it reads and writes. Written from JVMS alone.
+-- JVMS's `<i>`, `<l>`, `<f>`, `<d>` are `constant` here, its `length` is `size`, its `[arg1, [arg2 ...]]` is `args`.
+-- Assumes nothing.
+use Prim.Native.Nat.{ℕ, zero, suc, _+_}
+use mathlib.Core.Bool.{Bool}
+use mathlib.Core.List.{List, [], _∷_}
+use lib.Dec.{eqb}
+
+pub data Name : Type 0 where
+  value value1 value2 constant null objectref arrayref index count size result args : Name
+
+-- an operand or a result by its name, of a type. `category1` and `category2`: any value of that category (JVMS 2.11.1).
+-- `field`, `parameters`, `returned`: what the descriptor of the member that the instruction cites says.
+pub data Operand : Type 0 where
+  int long float double reference category1 category2 field parameters returned : Name → Operand
+
+-- "..., before → ..., after"
+pub record Form : Type 0 where
+  pub before : List Operand
+  pub after : List Operand
+
+infix 3 _⇒_
+abbrev pub _⇒_ : List Operand → List Operand → Form
+operands ⇒ outcome = record { before = operands; after = outcome }
+
+-- which local: by the byte behind the opcode, or by the number in the opcode's name
+pub data Local : Type 0 where
+  indexed : Local
+  numbered : ℕ → Local
+
+pub data Entry : Type 0 where
+  unlisted : Entry
+  -- one form; two forms, by the category of the values
+  does : Form → Entry
+  eitherOf : Form → Form → Entry
+  -- the results are what the local holds, and the next one for two slots
+  loads : Local → Form → Entry
+  -- the operand goes into the local, and the next one for two slots
+  stores : Local → Form → Entry
+  -- the local behind the opcode is written
+  increments : Form → Entry
+  -- control leaves the code
+  throws : List Operand → Entry
+
+-- ---- slots
+
+-- of a field's value, of a method's parameters and of its result
+pub record Cited : Type 0 where
+  pub field : ℕ
+  pub args : ℕ
+  pub gives : ℕ
+
+-- JVMS 2.6.2: "A value of type long or type double contributes two units to the depth and a value of any other type one"
+abbrev pub slotsOf : Cited → Operand → ℕ
+slotsOf cited (int n) = 1
+slotsOf cited (long n) = 2
+slotsOf cited (float n) = 1
+slotsOf cited (double n) = 2
+slotsOf cited (reference n) = 1
+slotsOf cited (category1 n) = 1
+slotsOf cited (category2 n) = 2
+slotsOf cited (field n) = cited .field
+slotsOf cited (parameters n) = cited .args
+slotsOf cited (returned n) = cited .gives
+
+abbrev pub slotsIn : Cited → List Operand → ℕ
+slotsIn cited [] = 0
+slotsIn cited (o ∷ os) = slotsOf cited o + slotsIn cited os
+
+-- ---- names
+
+abbrev pub nameOf : Operand → Name
+nameOf (int n) = n
+nameOf (long n) = n
+nameOf (float n) = n
+nameOf (double n) = n
+nameOf (reference n) = n
+nameOf (category1 n) = n
+nameOf (category2 n) = n
+nameOf (field n) = n
+nameOf (parameters n) = n
+nameOf (returned n) = n
+
+abbrev pub ordinal : Name → ℕ
+ordinal value = 0
+ordinal value1 = 1
+ordinal value2 = 2
+ordinal constant = 3
+ordinal null = 4
+ordinal objectref = 5
+ordinal arrayref = 6
+ordinal index = 7
+ordinal count = 8
+ordinal size = 9
+ordinal result = 10
+ordinal args = 11
+
+abbrev pub sameName : Name → Name → Bool
+sameName a b = eqb (ordinal a) (ordinal b)
+
+-- ---- the opcodes from 0 to 201
+
+unfoldable pub entries : List Entry
+entries =
+    does ([] ⇒ []) ∷  -- 0 nop
+    does ([] ⇒ reference null ∷ []) ∷  -- 1 aconst_null
+    does ([] ⇒ int constant ∷ []) ∷  -- 2 iconst_m1
+    does ([] ⇒ int constant ∷ []) ∷  -- 3 iconst_0
+    does ([] ⇒ int constant ∷ []) ∷  -- 4 iconst_1
+    does ([] ⇒ int constant ∷ []) ∷  -- 5 iconst_2
+    does ([] ⇒ int constant ∷ []) ∷  -- 6 iconst_3
+    does ([] ⇒ int constant ∷ []) ∷  -- 7 iconst_4
+    does ([] ⇒ int constant ∷ []) ∷  -- 8 iconst_5
+    does ([] ⇒ long constant ∷ []) ∷  -- 9 lconst_0
+    does ([] ⇒ long constant ∷ []) ∷  -- 10 lconst_1
+    does ([] ⇒ float constant ∷ []) ∷  -- 11 fconst_0
+    does ([] ⇒ float constant ∷ []) ∷  -- 12 fconst_1
+    does ([] ⇒ float constant ∷ []) ∷  -- 13 fconst_2
+    does ([] ⇒ double constant ∷ []) ∷  -- 14 dconst_0
+    does ([] ⇒ double constant ∷ []) ∷  -- 15 dconst_1
+    does ([] ⇒ int value ∷ []) ∷  -- 16 bipush
+    does ([] ⇒ int value ∷ []) ∷  -- 17 sipush
+    does ([] ⇒ category1 value ∷ []) ∷  -- 18 ldc
+    does ([] ⇒ category1 value ∷ []) ∷  -- 19 ldc_w
+    does ([] ⇒ category2 value ∷ []) ∷  -- 20 ldc2_w
+    loads indexed ([] ⇒ int value ∷ []) ∷  -- 21 iload
+    loads indexed ([] ⇒ long value ∷ []) ∷  -- 22 lload
+    loads indexed ([] ⇒ float value ∷ []) ∷  -- 23 fload
+    loads indexed ([] ⇒ double value ∷ []) ∷  -- 24 dload
+    loads indexed ([] ⇒ reference objectref ∷ []) ∷  -- 25 aload
+    loads (numbered 0) ([] ⇒ int value ∷ []) ∷  -- 26 iload_0
+    loads (numbered 1) ([] ⇒ int value ∷ []) ∷  -- 27 iload_1
+    loads (numbered 2) ([] ⇒ int value ∷ []) ∷  -- 28 iload_2
+    loads (numbered 3) ([] ⇒ int value ∷ []) ∷  -- 29 iload_3
+    loads (numbered 0) ([] ⇒ long value ∷ []) ∷  -- 30 lload_0
+    loads (numbered 1) ([] ⇒ long value ∷ []) ∷  -- 31 lload_1
+    loads (numbered 2) ([] ⇒ long value ∷ []) ∷  -- 32 lload_2
+    loads (numbered 3) ([] ⇒ long value ∷ []) ∷  -- 33 lload_3
+    loads (numbered 0) ([] ⇒ float value ∷ []) ∷  -- 34 fload_0
+    loads (numbered 1) ([] ⇒ float value ∷ []) ∷  -- 35 fload_1
+    loads (numbered 2) ([] ⇒ float value ∷ []) ∷  -- 36 fload_2
+    loads (numbered 3) ([] ⇒ float value ∷ []) ∷  -- 37 fload_3
+    loads (numbered 0) ([] ⇒ double value ∷ []) ∷  -- 38 dload_0
+    loads (numbered 1) ([] ⇒ double value ∷ []) ∷  -- 39 dload_1
+    loads (numbered 2) ([] ⇒ double value ∷ []) ∷  -- 40 dload_2
+    loads (numbered 3) ([] ⇒ double value ∷ []) ∷  -- 41 dload_3
+    loads (numbered 0) ([] ⇒ reference objectref ∷ []) ∷  -- 42 aload_0
+    loads (numbered 1) ([] ⇒ reference objectref ∷ []) ∷  -- 43 aload_1
+    loads (numbered 2) ([] ⇒ reference objectref ∷ []) ∷  -- 44 aload_2
+    loads (numbered 3) ([] ⇒ reference objectref ∷ []) ∷  -- 45 aload_3
+    does (reference arrayref ∷ int index ∷ [] ⇒ int value ∷ []) ∷  -- 46 iaload
+    does (reference arrayref ∷ int index ∷ [] ⇒ long value ∷ []) ∷  -- 47 laload
+    does (reference arrayref ∷ int index ∷ [] ⇒ float value ∷ []) ∷  -- 48 faload
+    does (reference arrayref ∷ int index ∷ [] ⇒ double value ∷ []) ∷  -- 49 daload
+    does (reference arrayref ∷ int index ∷ [] ⇒ reference value ∷ []) ∷  -- 50 aaload
+    does (reference arrayref ∷ int index ∷ [] ⇒ int value ∷ []) ∷  -- 51 baload
+    does (reference arrayref ∷ int index ∷ [] ⇒ int value ∷ []) ∷  -- 52 caload
+    does (reference arrayref ∷ int index ∷ [] ⇒ int value ∷ []) ∷  -- 53 saload
+    stores indexed (int value ∷ [] ⇒ []) ∷  -- 54 istore
+    stores indexed (long value ∷ [] ⇒ []) ∷  -- 55 lstore
+    stores indexed (float value ∷ [] ⇒ []) ∷  -- 56 fstore
+    stores indexed (double value ∷ [] ⇒ []) ∷  -- 57 dstore
+    stores indexed (reference objectref ∷ [] ⇒ []) ∷  -- 58 astore
+    stores (numbered 0) (int value ∷ [] ⇒ []) ∷  -- 59 istore_0
+    stores (numbered 1) (int value ∷ [] ⇒ []) ∷  -- 60 istore_1
+    stores (numbered 2) (int value ∷ [] ⇒ []) ∷  -- 61 istore_2
+    stores (numbered 3) (int value ∷ [] ⇒ []) ∷  -- 62 istore_3
+    stores (numbered 0) (long value ∷ [] ⇒ []) ∷  -- 63 lstore_0
+    stores (numbered 1) (long value ∷ [] ⇒ []) ∷  -- 64 lstore_1
+    stores (numbered 2) (long value ∷ [] ⇒ []) ∷  -- 65 lstore_2
+    stores (numbered 3) (long value ∷ [] ⇒ []) ∷  -- 66 lstore_3
+    stores (numbered 0) (float value ∷ [] ⇒ []) ∷  -- 67 fstore_0
+    stores (numbered 1) (float value ∷ [] ⇒ []) ∷  -- 68 fstore_1
+    stores (numbered 2) (float value ∷ [] ⇒ []) ∷  -- 69 fstore_2
+    stores (numbered 3) (float value ∷ [] ⇒ []) ∷  -- 70 fstore_3
+    stores (numbered 0) (double value ∷ [] ⇒ []) ∷  -- 71 dstore_0
+    stores (numbered 1) (double value ∷ [] ⇒ []) ∷  -- 72 dstore_1
+    stores (numbered 2) (double value ∷ [] ⇒ []) ∷  -- 73 dstore_2
+    stores (numbered 3) (double value ∷ [] ⇒ []) ∷  -- 74 dstore_3
+    stores (numbered 0) (reference objectref ∷ [] ⇒ []) ∷  -- 75 astore_0
+    stores (numbered 1) (reference objectref ∷ [] ⇒ []) ∷  -- 76 astore_1
+    stores (numbered 2) (reference objectref ∷ [] ⇒ []) ∷  -- 77 astore_2
+    stores (numbered 3) (reference objectref ∷ [] ⇒ []) ∷  -- 78 astore_3
+    does (reference arrayref ∷ int index ∷ int value ∷ [] ⇒ []) ∷  -- 79 iastore
+    does (reference arrayref ∷ int index ∷ long value ∷ [] ⇒ []) ∷  -- 80 lastore
+    does (reference arrayref ∷ int index ∷ float value ∷ [] ⇒ []) ∷  -- 81 fastore
+    does (reference arrayref ∷ int index ∷ double value ∷ [] ⇒ []) ∷  -- 82 dastore
+    does (reference arrayref ∷ int index ∷ reference value ∷ [] ⇒ []) ∷  -- 83 aastore
+    does (reference arrayref ∷ int index ∷ int value ∷ [] ⇒ []) ∷  -- 84 bastore
+    does (reference arrayref ∷ int index ∷ int value ∷ [] ⇒ []) ∷  -- 85 castore
+    does (reference arrayref ∷ int index ∷ int value ∷ [] ⇒ []) ∷  -- 86 sastore
+    does (category1 value ∷ [] ⇒ []) ∷  -- 87 pop
+    eitherOf (category1 value2 ∷ category1 value1 ∷ [] ⇒ []) (category2 value ∷ [] ⇒ []) ∷  -- 88 pop2
+    does (category1 value ∷ [] ⇒ category1 value ∷ category1 value ∷ []) ∷  -- 89 dup
+    unlisted ∷  -- 90 dup_x1
+    unlisted ∷  -- 91 dup_x2
+    eitherOf
+    (category1 value2 ∷ category1 value1 ∷ [] ⇒ category1 value2 ∷ category1 value1 ∷ category1 value2 ∷ category1 value1 ∷ [])
+    (category2 value ∷ [] ⇒ category2 value ∷ category2 value ∷ []) ∷  -- 92 dup2
+    unlisted ∷  -- 93 dup2_x1
+    unlisted ∷  -- 94 dup2_x2
+    does (category1 value2 ∷ category1 value1 ∷ [] ⇒ category1 value1 ∷ category1 value2 ∷ []) ∷  -- 95 swap
+    unlisted ∷  -- 96 iadd
+    unlisted ∷  -- 97 ladd
+    unlisted ∷  -- 98 fadd
+    unlisted ∷  -- 99 dadd
+    unlisted ∷  -- 100 isub
+    unlisted ∷  -- 101 lsub
+    unlisted ∷  -- 102 fsub
+    unlisted ∷  -- 103 dsub
+    unlisted ∷  -- 104 imul
+    unlisted ∷  -- 105 lmul
+    unlisted ∷  -- 106 fmul
+    unlisted ∷  -- 107 dmul
+    unlisted ∷  -- 108 idiv
+    unlisted ∷  -- 109 ldiv
+    unlisted ∷  -- 110 fdiv
+    unlisted ∷  -- 111 ddiv
+    unlisted ∷  -- 112 irem
+    unlisted ∷  -- 113 lrem
+    unlisted ∷  -- 114 frem
+    unlisted ∷  -- 115 drem
+    unlisted ∷  -- 116 ineg
+    unlisted ∷  -- 117 lneg
+    unlisted ∷  -- 118 fneg
+    unlisted ∷  -- 119 dneg
+    unlisted ∷  -- 120 ishl
+    unlisted ∷  -- 121 lshl
+    unlisted ∷  -- 122 ishr
+    unlisted ∷  -- 123 lshr
+    unlisted ∷  -- 124 iushr
+    unlisted ∷  -- 125 lushr
+    unlisted ∷  -- 126 iand
+    unlisted ∷  -- 127 land
+    unlisted ∷  -- 128 ior
+    unlisted ∷  -- 129 lor
+    unlisted ∷  -- 130 ixor
+    unlisted ∷  -- 131 lxor
+    increments ([] ⇒ []) ∷  -- 132 iinc
+    unlisted ∷  -- 133 i2l
+    unlisted ∷  -- 134 i2f
+    unlisted ∷  -- 135 i2d
+    unlisted ∷  -- 136 l2i
+    unlisted ∷  -- 137 l2f
+    unlisted ∷  -- 138 l2d
+    unlisted ∷  -- 139 f2i
+    unlisted ∷  -- 140 f2l
+    unlisted ∷  -- 141 f2d
+    unlisted ∷  -- 142 d2i
+    unlisted ∷  -- 143 d2l
+    unlisted ∷  -- 144 d2f
+    unlisted ∷  -- 145 i2b
+    unlisted ∷  -- 146 i2c
+    unlisted ∷  -- 147 i2s
+    unlisted ∷  -- 148 lcmp
+    unlisted ∷  -- 149 fcmpl
+    unlisted ∷  -- 150 fcmpg
+    unlisted ∷  -- 151 dcmpl
+    unlisted ∷  -- 152 dcmpg
+    unlisted ∷  -- 153 ifeq
+    unlisted ∷  -- 154 ifne
+    unlisted ∷  -- 155 iflt
+    unlisted ∷  -- 156 ifge
+    unlisted ∷  -- 157 ifgt
+    unlisted ∷  -- 158 ifle
+    unlisted ∷  -- 159 if_icmpeq
+    unlisted ∷  -- 160 if_icmpne
+    unlisted ∷  -- 161 if_icmplt
+    unlisted ∷  -- 162 if_icmpge
+    unlisted ∷  -- 163 if_icmpgt
+    unlisted ∷  -- 164 if_icmple
+    unlisted ∷  -- 165 if_acmpeq
+    unlisted ∷  -- 166 if_acmpne
+    unlisted ∷  -- 167 goto
+    unlisted ∷  -- 168 jsr
+    unlisted ∷  -- 169 ret
+    unlisted ∷  -- 170 tableswitch
+    unlisted ∷  -- 171 lookupswitch
+    unlisted ∷  -- 172 ireturn
+    unlisted ∷  -- 173 lreturn
+    unlisted ∷  -- 174 freturn
+    unlisted ∷  -- 175 dreturn
+    unlisted ∷  -- 176 areturn
+    unlisted ∷  -- 177 return
+    does ([] ⇒ field value ∷ []) ∷  -- 178 getstatic
+    unlisted ∷  -- 179 putstatic
+    does (reference objectref ∷ [] ⇒ field value ∷ []) ∷  -- 180 getfield
+    does (reference objectref ∷ field value ∷ [] ⇒ []) ∷  -- 181 putfield
+    does (reference objectref ∷ parameters args ∷ [] ⇒ returned result ∷ []) ∷  -- 182 invokevirtual
+    does (reference objectref ∷ parameters args ∷ [] ⇒ returned result ∷ []) ∷  -- 183 invokespecial
+    does (parameters args ∷ [] ⇒ returned result ∷ []) ∷  -- 184 invokestatic
+    does (reference objectref ∷ parameters args ∷ [] ⇒ returned result ∷ []) ∷  -- 185 invokeinterface
+    unlisted ∷  -- 186 invokedynamic
+    does ([] ⇒ reference objectref ∷ []) ∷  -- 187 new
+    does (int count ∷ [] ⇒ reference arrayref ∷ []) ∷  -- 188 newarray
+    does (int count ∷ [] ⇒ reference arrayref ∷ []) ∷  -- 189 anewarray
+    does (reference arrayref ∷ [] ⇒ int size ∷ []) ∷  -- 190 arraylength
+    throws (reference objectref ∷ []) ∷  -- 191 athrow
+    does (reference objectref ∷ [] ⇒ reference objectref ∷ []) ∷  -- 192 checkcast
+    does (reference objectref ∷ [] ⇒ int result ∷ []) ∷  -- 193 instanceof
+    does (reference objectref ∷ [] ⇒ []) ∷  -- 194 monitorenter
+    does (reference objectref ∷ [] ⇒ []) ∷  -- 195 monitorexit
+    unlisted ∷  -- 196 wide
+    unlisted ∷  -- 197 multianewarray
+    unlisted ∷  -- 198 ifnull
+    unlisted ∷  -- 199 ifnonnull
+    unlisted ∷  -- 200 goto_w
+    unlisted ∷  -- 201 jsr_w
+    []
+
+abbrev pub entryIn : List Entry → ℕ → Entry
+entryIn [] op = unlisted
+entryIn (e ∷ es) zero = e
+entryIn (e ∷ es) (suc op) = entryIn es op
+
+-- what JVMS says of an opcode
+unfoldable pub entryOf : ℕ → Entry
+unfolding entries
+entryOf op = entryIn entries op
+
+-- the operands that JVMS lists for an instruction; those of a first form, where it has two
+abbrev pub operandsOf : Entry → List Operand
+operandsOf unlisted = []
+operandsOf (does f) = f .before
+operandsOf (eitherOf f g) = f .before
+operandsOf (loads l f) = f .before
+operandsOf (stores l f) = f .before
+operandsOf (increments f) = f .before
+operandsOf (throws os) = os

@@ -1,0 +1,3 @@
+pub mod Cause
+pub mod Condition
+pub mod Translation
