@@ -81,33 +81,40 @@ module _ (lookup : Lookup) (code : List ℕ) (pc : ℕ) where
 
 -- ---- a step
 
--- An instruction fails, or it is completed and goes on at an index, or it is completed and passes the fault.
-pub data Outcome (A : Type 0) : Type 0 where
-  stops : Reason → Outcome A
-  goes : ℕ → List A → Outcome A
-  passes : List A → Outcome A
+-- the list that an effect makes, or why it fails
+pub data Made (A : Type 0) : Type 0 where
+  refused : Reason → Made A
+  made : List A → Made A
 
 -- the slots that places name, counted from the top of a list
 abbrev pub placed : {A : Type 0} → List ℕ → List A → List A
 placed [] slots = []
 placed (j ∷ js) slots = take 1 (drop (length slots - j) slots) ++ placed js slots
 
-module _ {A : Type 0} (marks : Marks A) (fault pc size : ℕ) where
-  abbrev pub landing : List A → Outcome A
-  landing slots = pick (leb (pc + size) fault) (goes (pc + size) slots) (passes slots)
-
+module _ {A : Type 0} (marks : Marks A) (pc : ℕ) where
   -- kept: what lies below the slots that are taken; slots: all
-  abbrev pub pushing : List A → List A → Push → Outcome A
-  pushing kept slots (blanks n) = landing (kept ++ replicate n (marks .blank pc))
-  pushing kept slots (load local) = pick (marks .holds pc local) (landing (kept ++ marks .mark pc local ∷ [])) (stops tooLarge)
-  pushing kept slots (carried places) = landing (kept ++ placed places slots)
-  pushing kept slots (unread reason) = stops reason
+  abbrev pub pushed : List A → List A → Push → Made A
+  pushed kept slots (blanks n) = made (kept ++ replicate n (marks .blank pc))
+  pushed kept slots (load local) = pick (marks .holds pc local) (made (kept ++ marks .mark pc local ∷ [])) (refused tooLarge)
+  pushed kept slots (carried places) = made (kept ++ placed places slots)
+  pushed kept slots (unread reason) = refused reason
 
   -- "Taking more slots than the list has fails."
-  abbrev pub applied : Effect → List A → Outcome A
-  applied (fails reason) slots = stops reason
+  abbrev pub applied : Effect → List A → Made A
+  applied (fails reason) slots = refused reason
   applied (does takes push) slots =
-      pick (leb takes (length slots)) (pushing (take (length slots - takes) slots) slots push) (stops tooFew)
+      pick (leb takes (length slots)) (pushed (take (length slots - takes) slots) slots push) (refused tooFew)
+
+-- An instruction fails, or it is completed and goes on at an index, or it is completed and passes the fault.
+pub data Outcome (A : Type 0) : Type 0 where
+  stops : Reason → Outcome A
+  goes : ℕ → List A → Outcome A
+  passes : List A → Outcome A
+
+-- next: the index after the instruction
+abbrev pub landed : {A : Type 0} → ℕ → ℕ → Made A → Outcome A
+landed fault next (refused reason) = stops reason
+landed fault next (made slots) = pick (leb next fault) (goes next slots) (passes slots)
 
 -- ---- the walk
 
@@ -121,7 +128,7 @@ module _ {A : Type 0} (marks : Marks A) (rows : ℕ → Row) (lookup : Lookup) (
   unfoldable pub step : ℕ → List A → Outcome A
   step pc slots =
       pick (ltb pc (length code))
-      (applied marks fault pc (fixedLength (byteAt code pc)) (effectBy lookup code pc (rows (byteAt code pc))) slots)
+      (landed fault (pc + fixedLength (byteAt code pc)) (applied marks pc (effectBy lookup code pc (rows (byteAt code pc))) slots))
       (stops pastEnd)
 
   -- "until the fault is reached exactly; passing it fails"
