@@ -6,17 +6,17 @@ use mathlib.Core.Path.{_≡_, refl, _∙_, sym, ap}
 use mathlib.Core.List.{List, _++_, append-assoc}
 use lib.ListN.{length, take, drop, length-append}
 use lib.Seq.{take-at, drop-at, length-take-le, drop-append-add, drop-drop}
-use Rattle.basics.specs.Parts.{splice}
+use Rattle.basics.specs.Parts.{overlaid}
 
 -- what follows u in a text that has u from a place on
 pub rest-of : (text u v : List ℕ) (at : ℕ) → drop at text ≡ u ++ v → drop (at + length u) text ≡ v
 rest-of text u v at e = sym (drop-drop (length u) at text) ∙ ap (drop (length u)) e ∙ drop-at u v (length u) refl
 
 -- two runs written one behind the other are one run
-pub splice-more :
-    (u v d : List ℕ) (k : ℕ) → k + length u ≤ length d → splice (k + length u) v (splice k u d) ≡ splice k (u ++ v) d
-unfolding splice
-splice-more u v d k h =
+pub overlaid-more :
+    (u v d : List ℕ) (k : ℕ) → k + length u ≤ length d → overlaid (k + length u) v (overlaid k u d) ≡ overlaid k (u ++ v) d
+unfolding overlaid
+overlaid-more u v d k h =
     let front = take k d in
     let behind = drop (k + length u) d in
     let size : length (front ++ u) ≡ k + length u =

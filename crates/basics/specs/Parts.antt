@@ -5,5 +5,5 @@ use mathlib.Core.List.{List, _++_}
 use lib.ListN.{length, take, drop}
 
 -- w over d from place k on, the rest unchanged
-unfoldable pub splice : ℕ → List ℕ → List ℕ → List ℕ
-splice k w d = take k d ++ (w ++ drop (k + length w) d)
+unfoldable pub overlaid : ℕ → List ℕ → List ℕ → List ℕ
+overlaid k w d = take k d ++ (w ++ drop (k + length w) d)

@@ -1,4 +1,18 @@
 // The walk of a block over a lent stack of cells (document 01, "The walk").
+use descriptor::Params;
+use descriptor::Slots;
+use opcode::Opcode;
+ghost use mathlib.Core.Path.{_≡_};
+ghost use mathlib.Core.List.{List, []};
+ghost use Prim.Native.Nat.{ℕ, _+_, _<_};
+ghost use lib.ListN.{length, take, replicate};
+ghost use Rattle.basics.specs.Bytes.{byteAt};
+ghost use Rattle.effects.specs.Lookup.{lookupIn};
+ghost use Rattle.effects.specs.Rows.{rowOf, aload as aloadRow, gets as getsRow, calls as callsRow};
+ghost use Rattle.block.specs.Cells.{packed, unpacked, dupPlaces, dup2Places, swapPlaces, rowFrom, effectFrom, bare, Clean, Laid, Stepped};
+ghost use Rattle.block.specs.Room.{blockWalk, answerOf, cellsOf};
+ghost use Rattle.block.specs.Walk.{cells, blanks, load as loadPush, carried, does, effectBy, applied, made, landed, step as stepAt};
+ghost use Rattle.block.specs.Cells.{stepOf};
 
 // What a walk answers.
 pub enum Walk {
@@ -8,4 +22,145 @@ pub enum Walk {
     Failed { count: usize },
     // The height after the instruction at an index exceeds the lent stack.
     NoRoom { at: usize },
+}
+
+// A load as a cell.
+pub enum Cell {
+    Held(u64),
+    TooLarge,
+}
+
+// What a cell holds.
+pub enum Slot {
+    Other,
+    Loaded { load: usize, local: usize },
+}
+
+// What an opcode does to the slots.
+pub enum Row {
+    Unmodelled,
+    // Takes slots and pushes opaque ones.
+    Opaque { takes: usize, gives: usize },
+    // Pushes the load of a local: the next byte names it, or the opcode does.
+    Aload,
+    AloadOf { local: usize },
+    Dup,
+    Dup2,
+    Swap,
+    // checkcast: the list is kept.
+    Keeps,
+    // Takes slots and pushes those of the field that it cites.
+    Gets { takes: usize },
+    // Takes slots and the arguments of the method that it cites, and pushes those of its return.
+    Calls { takes: usize },
+}
+
+// What an instruction does to the slots, its operands read.
+pub enum Effect {
+    Fails,
+    Opaque { takes: usize, args: usize, gives: usize },
+    Load { local: usize },
+    Dup,
+    Dup2,
+    Swap,
+}
+
+// The height after an effect.
+pub enum Height {
+    Refused,
+    Over,
+    High(usize),
+}
+
+// How an instruction ends.
+pub enum Step {
+    Stops,
+    Lacks,
+    Passes,
+    Goes { pc: usize, height: usize },
+}
+
+// The cell of a load. The greatest cell is 2^64 - 1.
+pub fn pack(load: usize, local: usize) -> Cell
+    ensures { λ r. ⌜ r ≡ packed load local ⌝ }
+{
+    let most: usize = 18446744073709551614;
+    if most < local {
+        return Cell::TooLarge;
+    }
+    if (most - local) / 256 < load {
+        return Cell::TooLarge;
+    }
+    Cell::Held((1 + 256 * load + local) as u64)
+}
+
+// The load of a cell.
+pub fn unpack(cell: u64) -> Slot
+    ensures { λ r. ⌜ r ≡ unpacked cell ⌝ }
+{
+    if cell == 0 {
+        return Slot::Other;
+    }
+    let rest = (cell - 1) as usize;
+    Slot::Loaded {
+        load: rest / 256,
+        local: rest % 256,
+    }
+}
+
+// The rows of constants, loads and stores, 0 to 78.
+fn local_row(op: u8) -> Row
+    requires { ⌜ op < 79 ⌝ }
+    ensures { λ r. ⌜ rowFrom r ≡ rowOf op ⌝ }
+{
+    match op {
+        Opcode::NOP => Row::Opaque { takes: 0, gives: 0 },
+        Opcode::ACONST_NULL..=Opcode::ICONST_5 => Row::Opaque { takes: 0, gives: 1 },
+        Opcode::LCONST_0..=Opcode::LCONST_1 => Row::Opaque { takes: 0, gives: 2 },
+        Opcode::FCONST_0..=Opcode::FCONST_2 => Row::Opaque { takes: 0, gives: 1 },
+        Opcode::DCONST_0..=Opcode::DCONST_1 => Row::Opaque { takes: 0, gives: 2 },
+        Opcode::BIPUSH..=Opcode::LDC_W => Row::Opaque { takes: 0, gives: 1 },
+        Opcode::ILOAD | Opcode::FLOAD => Row::Opaque { takes: 0, gives: 1 },
+        Opcode::LDC2_W | Opcode::LLOAD | Opcode::DLOAD => Row::Opaque { takes: 0, gives: 2 },
+        Opcode::ALOAD => Row::Aload,
+        Opcode::ILOAD_0..=Opcode::ILOAD_3 => Row::Opaque { takes: 0, gives: 1 },
+        Opcode::LLOAD_0..=Opcode::LLOAD_3 => Row::Opaque { takes: 0, gives: 2 },
+        Opcode::FLOAD_0..=Opcode::FLOAD_3 => Row::Opaque { takes: 0, gives: 1 },
+        Opcode::DLOAD_0..=Opcode::DLOAD_3 => Row::Opaque { takes: 0, gives: 2 },
+        Opcode::ALOAD_0..=Opcode::ALOAD_3 => Row::AloadOf {
+            local: (op - Opcode::ALOAD_0) as usize,
+        },
+        Opcode::LALOAD | Opcode::DALOAD => Row::Opaque { takes: 2, gives: 2 },
+        Opcode::IALOAD..=Opcode::SALOAD => Row::Opaque { takes: 2, gives: 1 },
+        Opcode::LSTORE | Opcode::DSTORE => Row::Opaque { takes: 2, gives: 0 },
+        Opcode::LSTORE_0..=Opcode::LSTORE_3 => Row::Opaque { takes: 2, gives: 0 },
+        Opcode::DSTORE_0..=Opcode::DSTORE_3 => Row::Opaque { takes: 2, gives: 0 },
+        _ => Row::Opaque { takes: 1, gives: 0 },
+    }
+}
+
+// The row of an opcode.
+fn row_of(op: u8) -> Row
+    ensures { λ r. ⌜ rowFrom r ≡ rowOf op ⌝ }
+{
+    if op <= Opcode::ASTORE_3 {
+        return local_row(op);
+    }
+    match op {
+        Opcode::POP => Row::Opaque { takes: 1, gives: 0 },
+        Opcode::POP2 => Row::Opaque { takes: 2, gives: 0 },
+        Opcode::DUP => Row::Dup,
+        Opcode::DUP2 => Row::Dup2,
+        Opcode::SWAP => Row::Swap,
+        Opcode::IINC => Row::Opaque { takes: 0, gives: 0 },
+        Opcode::GETSTATIC => Row::Gets { takes: 0 },
+        Opcode::GETFIELD => Row::Gets { takes: 1 },
+        Opcode::INVOKEVIRTUAL | Opcode::INVOKESPECIAL | Opcode::INVOKEINTERFACE => Row::Calls { takes: 1 },
+        Opcode::INVOKESTATIC => Row::Calls { takes: 0 },
+        Opcode::NEW => Row::Opaque { takes: 0, gives: 1 },
+        Opcode::NEWARRAY..=Opcode::ARRAYLENGTH => Row::Opaque { takes: 1, gives: 1 },
+        Opcode::CHECKCAST => Row::Keeps,
+        Opcode::INSTANCEOF => Row::Opaque { takes: 1, gives: 1 },
+        _ => Row::Unmodelled,
+    }
 }

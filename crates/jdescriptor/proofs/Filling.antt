@@ -8,8 +8,8 @@ use mathlib.Core.List.{List, [], _∷_, append-assoc}
 use lib.Dec.{eqb, ltb}
 use lib.ListN.{length, set, take, drop}
 use lib.Seq.{sets-eq}
-use Rattle.basics.specs.Parts.{splice}
-use Rattle.basics.proofs.Parts.{splice-more}
+use Rattle.basics.specs.Parts.{overlaid}
+use Rattle.basics.proofs.Parts.{overlaid-more}
 use Rattle.jtype.specs.OneType.{typeAt}
 use Rattle.jtype.specs.declared.Next.{Next}
 use Rattle.jtype.specs.declared.Next.the-variants as next
@@ -21,8 +21,8 @@ use Rattle.jdescriptor.proofs.Judging.{Enough, turn, no-text, not-opene
 
 pub set-four :
     (a b c e : ℕ) (l : List ℕ) (k : ℕ) → k + 4 ≤ length l →
-    set (set (set (set l k a) (k + 1) b) (k + 2) c) (k + 3) e ≡ splice k (a ∷ b ∷ c ∷ e ∷ []) l
-unfolding splice
+    set (set (set (set l k a) (k + 1) b) (k + 2) c) (k + 3) e ≡ overlaid k (a ∷ b ∷ c ∷ e ∷ []) l
+unfolding overlaid
 set-four a b c e l k h =
     let e1 : k + 1 ≡ suc k = omega arith in
     let e2 : k + 2 ≡ suc (suc k) = omega arith in
@@ -34,7 +34,7 @@ set-four a b c e l k h =
 pub record Filling (R : Reading) (cells : List ℕ) (k : ℕ) (wanted : List ℕ) : Type 0 where
   pub are : IsTypes R
   pub room : k + 4 * length (recordsOf R) ≤ length cells
-  pub from-here : splice k (numbersOf (recordsOf R)) cells ≡ wanted
+  pub from-here : overlaid k (numbersOf (recordsOf R)) cells ≡ wanted
 
 one-fits :
     (t : TypeRecord) (R : Reading) (cells : List ℕ) (k : ℕ) (wanted : List ℕ) → Filling (after t R) cells k wanted →
@@ -44,7 +44,7 @@ one-fits t (refused r) cells k wanted f = absurd (f .are)
 
 one-written :
     (t : TypeRecord) (R : Reading) (cells : List ℕ) (k : ℕ) (wanted : List ℕ) → Filling (after t R) cells k wanted →
-    (cells₁ : List ℕ) → cells₁ ≡ splice k (four t) cells → length cells₁ ≡ length cells → Filling R cells₁ (k + 4) wanted
+    (cells₁ : List ℕ) → cells₁ ≡ overlaid k (four t) cells → length cells₁ ≡ length cells → Filling R cells₁ (k + 4) wanted
 unfolding numbersOf
 one-written t (types ts) cells k wanted f cells₁ q same =
     let room = f .room in
@@ -52,7 +52,7 @@ one-written t (types ts) cells k wanted f cells₁ q same =
       are = tt;
       room = omega arith;
       from-here =
-          ap (splice (k + 4) (numbersOf ts)) q ∙ splice-more (four t) (numbersOf ts) cells k (omega arith) ∙ f .from-here;
+          ap (overlaid (k + 4) (numbersOf ts)) q ∙ overlaid-more (four t) (numbersOf ts) cells k (omega arith) ∙ f .from-here;
     }
 one-written t (refused r) cells k wanted f cells₁ q same = absurd (f .are)
 
@@ -83,7 +83,7 @@ module _ (text cells : List ℕ) (at left k : ℕ) (wanted : List ℕ) (enough :
 
   pub filled :
       (t : TypeRecord) (end : ℕ) → typeAt text at ≡ next.Is t end → Filling (parametersAt left text at) cells k wanted →
-      (cells₁ : List ℕ) → cells₁ ≡ splice k (four t) cells → length cells₁ ≡ length cells →
+      (cells₁ : List ℕ) → cells₁ ≡ overlaid k (four t) cells → length cells₁ ≡ length cells →
       Filling (parametersAt (left - 1) text end) cells₁ (k + 4) wanted
   filled t end e f = one-written t (parametersAt (left - 1) text end) cells k wanted (one-more t end e f)
 
@@ -99,7 +99,7 @@ module _ (text cells : List ℕ) (at left k : ℕ) (wanted : List ℕ) (enough :
 pub begun :
     (text d : List ℕ) → IsTypes (methodReading text) → 4 * length (recordsOf (methodReading text)) ≤ length d →
     Enough text 1 (length text)
-    × Filling (parametersAt (length text) text 1) d 0 (splice 0 (numbersOf (recordsOf (methodReading text))) d)
+    × Filling (parametersAt (length text) text 1) d 0 (overlaid 0 (numbersOf (recordsOf (methodReading text))) d)
 begun [] d are room = absurd (rw (no-text [] refl) at are)
 begun (x ∷ text) d are room = by (eqb x 40) refl
   where
@@ -107,7 +107,7 @@ begun (x ∷ text) d are room = by (eqb x 40) refl
         (b : Bool) → eqb x 40 ≡ b →
         Enough (x ∷ text) 1 (length (x ∷ text))
         × Filling (parametersAt (length (x ∷ text)) (x ∷ text) 1) d 0
-        (splice 0 (numbersOf (recordsOf (methodReading (x ∷ text)))) d)
+        (overlaid 0 (numbersOf (recordsOf (methodReading (x ∷ text)))) d)
     by true e = (
       record { inside = omega arith; turns = omega arith },
       rw (opened (x ∷ text) e) (record { are = are; room = omega arith; from-here = refl }),

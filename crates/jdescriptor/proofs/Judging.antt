@@ -8,7 +8,7 @@ use mathlib.Core.List.{List, [], _∷_}
 use lib.Dec.{eqb}
 use lib.ListN.{length, getD}
 use borrow.Author.Tests.{lt-ltb, le-ltb}
-use Rattle.basics.specs.Parts.{splice}
+use Rattle.basics.specs.Parts.{overlaid}
 use Rattle.jtype.specs.OneType.{typeAt}
 use Rattle.jtype.specs.declared.Next.{Next}
 use Rattle.jtype.specs.declared.Next.the-variants as next
@@ -133,7 +133,7 @@ too-small (refused r) count d e h = let z : _≡_ {A = ℕ} 0 1 = cc in absurd (
 
 pub fitting :
     (R : Reading) (count : ℕ) (d cells : List ℕ) → judged R ≡ Types count → count ≤ length d / 4 →
-    cells ≡ splice 0 (numbersOf (recordsOf R)) d → (Types count ≡ answer R (length d)) × (cells ≡ written R d)
+    cells ≡ overlaid 0 (numbersOf (recordsOf R)) d → (Types count ≡ answer R (length d)) × (cells ≡ written R d)
 unfolding answer written
 fitting (types ts) count d cells e h q =
     let same : length ts ≡ count = cc in

@@ -5,7 +5,7 @@ use mathlib.Core.List.{List, [], _∷_, _++_}
 use lib.Dec.{ltb}
 use lib.ListN.{length}
 use Rattle.basics.specs.Choice.{pick}
-use Rattle.basics.specs.Parts.{splice}
+use Rattle.basics.specs.Parts.{overlaid}
 use Rattle.jtype.specs.Refusal.{numberOf}
 use Rattle.jtype.specs.declared.Refusal.the-variants.{NoRoom}
 use Rattle.jtype.specs.declared.TypeRecord.{TypeRecord}
@@ -29,7 +29,7 @@ answer (refused r) room = Refused r
 
 -- "to a lent buffer .. the rest unchanged", "A refusal leaves it unchanged."
 unfoldable pub written : Reading → List ℕ → List ℕ
-written (types ts) buffer = pick (ltb (length buffer) (4 * length ts)) buffer (splice 0 (numbersOf ts) buffer)
+written (types ts) buffer = pick (ltb (length buffer) (4 * length ts)) buffer (overlaid 0 (numbersOf ts) buffer)
 written (refused r) buffer = buffer
 
 -- an answer as document 01's numbers: 0 and the count of types, or the refusal's number

@@ -6,7 +6,7 @@ use jtype::TypeRecord;
 ghost use mathlib.Core.Path.{_≡_};
 ghost use Prim.Native.Nat.{_+_, _*_, _≤_, _<_};
 ghost use lib.ListN.{length};
-ghost use Rattle.basics.specs.Parts.{splice};
+ghost use Rattle.basics.specs.Parts.{overlaid};
 ghost use Rattle.jdescriptor.specs.Reading.{typeReading, returnAt, methodReading};
 ghost use Rattle.jdescriptor.specs.Answer.{four, numbersOf, answer, written, judged, raised, IsTypes, recordsOf};
 
@@ -20,7 +20,7 @@ pub enum Answer {
 // The four numbers of a type, from place k of the buffer on.
 fn put_record(numbers: &mut [u64], k: usize, t: TypeRecord)
     requires { ⌜ k + 4 ≤ length (now numbers) ⌝ }
-    ensures { λ r. ⌜ now (numbers .exit) ≡ splice k (four t) (now (numbers .entry)) ⌝ }
+    ensures { λ r. ⌜ now (numbers .exit) ≡ overlaid k (four t) (now (numbers .entry)) ⌝ }
 {
     numbers[k] = t.letter;
     numbers[k + 1] = t.dimensions;
@@ -101,7 +101,7 @@ fn judge_method(text: &[u8]) -> Answer
 fn fill_return(text: &[u8], at: usize, numbers: &mut [u64], k: usize)
     requires { ⌜ IsTypes (returnAt (now text) at) ⌝ }
     requires { ⌜ k + 4 * length (recordsOf (returnAt (now text) at)) ≤ length (now numbers) ⌝ }
-    ensures { λ r. ⌜ now (numbers .exit) ≡ splice k (numbersOf (recordsOf (returnAt (now (text .entry)) at))) (now (numbers .entry)) ⌝ }
+    ensures { λ r. ⌜ now (numbers .exit) ≡ overlaid k (numbersOf (recordsOf (returnAt (now (text .entry)) at))) (now (numbers .entry)) ⌝ }
 {
     match jtype::get_next(text, at) {
         Next::Is(t, end) => {
@@ -116,7 +116,7 @@ fn fill_return(text: &[u8], at: usize, numbers: &mut [u64], k: usize)
 fn fill_method(text: &[u8], numbers: &mut [u64])
     requires { ⌜ IsTypes (methodReading (now text)) ⌝ }
     requires { ⌜ 4 * length (recordsOf (methodReading (now text))) ≤ length (now numbers) ⌝ }
-    ensures { λ r. ⌜ now (numbers .exit) ≡ splice 0 (numbersOf (recordsOf (methodReading (now (text .entry))))) (now (numbers .entry)) ⌝ }
+    ensures { λ r. ⌜ now (numbers .exit) ≡ overlaid 0 (numbersOf (recordsOf (methodReading (now (text .entry))))) (now (numbers .entry)) ⌝ }
 {
     let mut at = 1;
     let mut k = 0;

@@ -10,7 +10,7 @@ use mathlib.Core.Logic.{_⊎_, inl, inr}
 use lib.Dec.{eqb, ltb}
 use lib.ListN.{length, length-append}
 use borrow.Author.Tests.{lt-ltb, le-ltb, ltb-true, ltb-false, eqb-true, eqb-false}
-use Rattle.basics.specs.Parts.{splice}
+use Rattle.basics.specs.Parts.{overlaid}
 use Rattle.basics.specs.Choice.{pick}
 use Rattle.jvms.specs.Descriptor.{FieldType, ReturnType, void, typed, MethodType}
 use Rattle.jvms.specs.Descriptor.{render, renderReturn, renderAll, renderMethod}
@@ -130,7 +130,7 @@ module _ (Means : List ℕ → Reading → Type 0) (reading : List ℕ → Readi
     where
       by :
           (b : Bool) → ltb (length buffer) (4 * length ts) ≡ b →
-          Outcome M buffer (pick b (Refused NoRoom) (Types (length ts))) (pick b buffer (splice 0 (numbersOf ts) buffer))
+          Outcome M buffer (pick b (Refused NoRoom) (Types (length ts))) (pick b buffer (overlaid 0 (numbersOf ts) buffer))
       by true e = tooSmall ts m (ltb-true (length buffer) (4 * length ts) e)
       by false e = fits ts m (ltb-false (length buffer) (4 * length ts) e)
   outcome M buffer (refused r) m = refuses r m

@@ -8,7 +8,7 @@ use mathlib.Core.Path.{_≡_}
 use mathlib.Core.List.{List, [], _∷_, _++_}
 use mathlib.Core.Logic.{_⊎_}
 use lib.ListN.{length, replicate}
-use Rattle.basics.specs.Parts.{splice}
+use Rattle.basics.specs.Parts.{overlaid}
 use Rattle.jvms.specs.Descriptor.{BaseType, FieldType, ReturnType, MethodType}
 use Rattle.jvms.specs.Descriptor.{letter, render, renderAll, renderReturn, renderMethod}
 use Rattle.jvms.specs.Descriptor.{NoSemicolon, WellFormed, AllWellFormed, WellFormedReturn, WellFormedMethod}
@@ -132,7 +132,7 @@ TypeMeans text (refused r) = WrongAlone text r
 pub data Outcome (Means : Reading → Type 0) (buffer : List ℕ) : Answer → List ℕ → Type 0 where
   fits :
       (ts : List TypeRecord) → Means (types ts) → 4 * length ts ≤ length buffer →
-      Outcome Means buffer (Types (length ts)) (splice 0 (numbersOf ts) buffer)
+      Outcome Means buffer (Types (length ts)) (overlaid 0 (numbersOf ts) buffer)
   tooSmall :
       (ts : List TypeRecord) → Means (types ts) → length buffer < 4 * length ts → Outcome Means buffer (Refused NoRoom) buffer
   refuses : (r : Refusal) → Means (refused r) → Outcome Means buffer (Refused r) buffer

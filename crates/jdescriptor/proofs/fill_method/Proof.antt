@@ -5,7 +5,7 @@ use native.Mathlib.Omega.{arith}
 use mathlib.Core.Path.{_≡_, _∙_, sym, refl}
 use lib.ListN.{length}
 use borrow.Author.Needs.{needs}
-use Rattle.basics.specs.Parts.{splice}
+use Rattle.basics.specs.Parts.{overlaid}
 use Rattle.jdescriptor.specs.Answer.{numbersOf, recordsOf}
 use Rattle.jdescriptor.specs.Reading.{parametersAt, methodReading}
 use Rattle.jdescriptor.proofs.Filling.{Filling, fits, filled, at-close, never-refused, begun}
@@ -16,7 +16,7 @@ use Rattle.jdescriptor.proofs.fill_method.Tie as tie
 abbrev Inv-loop : tie.InvT-loop
 Inv-loop text numbers₀ at₀ k₀ numbers at k =
     (left : ℕ) × Enough text at left
-    × Filling (parametersAt left text at) numbers k (splice 0 (numbersOf (recordsOf (methodReading text))) numbers₀)
+    × Filling (parametersAt left text at) numbers k (overlaid 0 (numbersOf (recordsOf (methodReading text))) numbers₀)
     × (length numbers ≡ length numbers₀)
 
 abbrev μ-loop : tie.MeasureT-loop

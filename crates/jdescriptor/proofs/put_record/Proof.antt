@@ -1,4 +1,4 @@
--- `jdescriptor::put_record` meets its contract. Four stores one behind the other are a splice.
+-- `jdescriptor::put_record` meets its contract. Four stores one behind the other are a overlaid.
 -- Assumes nothing.
 use native.Mathlib.Omega.{arith}
 use lib.ListN.{length-set}

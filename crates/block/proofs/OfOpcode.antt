@@ -1,0 +1,86 @@
+-- The row of an opcode, known by computed tests over runs of opcodes.
+-- Assumes nothing.
+use Prim.Native.Nat.{ℕ, _+_, _≤_, _<_}
+use mathlib.Core.Path.{_≡_, refl, _∙_, sym, ap}
+use mathlib.Core.Bool.{Bool, true, false}
+use mathlib.Core.Logic.{inl, inr}
+use mathlib.Core.List.{List, [], _∷_}
+use lib.Dec.{T, eqb}
+use lib.ListN.{getD, drop}
+use borrow.Author.Tests.{ne-eqb}
+use types.Run.{OneOf}
+use Rattle.basics.specs.Choice.{pick, oneOf, sameList}
+use Rattle.basics.proofs.Every.{every, every-from}
+use Rattle.basics.proofs.Same.{are-same}
+use Rattle.effects.specs.Rows.{Row, unmodelled, opaque, aload, aloadOf, carries, keeps, gets, calls, rowOf}
+
+abbrev number : Row → List ℕ
+number unmodelled = 0 ∷ []
+number (opaque takes gives) = 1 ∷ takes ∷ gives ∷ []
+number aload = 2 ∷ []
+number (aloadOf local) = 3 ∷ local ∷ []
+number (carries takes places) = 4 ∷ takes ∷ places
+number keeps = 5 ∷ []
+number (gets takes) = 6 ∷ takes ∷ []
+number (calls takes) = 7 ∷ takes ∷ []
+
+abbrev numbered : List ℕ → Row
+numbered [] = unmodelled
+numbered (k ∷ l) =
+    pick (eqb k 1) (opaque (getD l 0 0) (getD l 1 0))
+    (pick (eqb k 2) aload
+    (pick (eqb k 3) (aloadOf (getD l 0 0))
+    (pick (eqb k 4) (carries (getD l 0 0) (drop 1 l))
+    (pick (eqb k 5) keeps
+    (pick (eqb k 6) (gets (getD l 0 0))
+    (pick (eqb k 7) (calls (getD l 0 0))
+    unmodelled))))))
+
+back : (row : Row) → numbered (number row) ≡ row
+back unmodelled = refl
+back (opaque takes gives) = refl
+back aload = refl
+back (aloadOf local) = refl
+back (carries takes places) = refl
+back keeps = refl
+back (gets takes) = refl
+back (calls takes) = refl
+
+abbrev pub is : Row → ℕ → Bool
+is row op = sameList (number row) (number (rowOf op))
+
+known : (row : Row) (op : ℕ) → T (is row op) → row ≡ rowOf op
+known row op t = sym (back row) ∙ ap numbered (are-same (number row) (number (rowOf op)) t) ∙ back (rowOf op)
+
+-- n opcodes from a on have the row that a rule gives them
+pub all-have :
+    (row : ℕ → Row) (a n : ℕ) → T (every (λ k. is (row (a + k)) (a + k)) n) → (op : ℕ) → a ≤ op → op < a + n → row op ≡ rowOf op
+all-have row a n t op from below = known (row op) op (every-from (λ k. is (row k) k) a n t op from below)
+
+-- ---- the same where no arm of a match has the opcode as a key; the last arm comes first here
+
+abbrev pub keyed : List (List ℕ) → ℕ → Bool
+keyed [] op = false
+keyed (keys ∷ arms) op = pick (oneOf keys op) true (keyed arms op)
+
+abbrev pub Unkeyed : List (List ℕ) → ℕ → Type 0
+Unkeyed [] op = Unit {0}
+Unkeyed (keys ∷ arms) op = Unkeyed arms op × (OneOf keys op → ⊥)
+
+none-of : (keys : List ℕ) (op : ℕ) → (OneOf keys op → ⊥) → oneOf keys op ≡ false
+none-of [] op never = refl
+none-of (k ∷ []) op never = rw (ne-eqb op k never)
+none-of (k ∷ k′ ∷ keys) op never = rw (ne-eqb op k (λ e. never (inl e))) (none-of (k′ ∷ keys) op (λ o. never (inr o)))
+
+not-keyed : (arms : List (List ℕ)) (op : ℕ) → Unkeyed arms op → keyed arms op ≡ false
+not-keyed [] op rest = refl
+not-keyed (keys ∷ arms) op rest = rw (none-of keys op (rest .1)) (not-keyed arms op (rest .0))
+
+abbrev pub isOr : List (List ℕ) → Row → ℕ → Bool
+isOr arms row op = pick (keyed arms op) true (is row op)
+
+pub all-unkeyed :
+    (row : Row) (arms : List (List ℕ)) (a n : ℕ) → T (every (λ k. isOr arms row (a + k)) n) →
+    (op : ℕ) → a ≤ op → op < a + n → Unkeyed arms op → row ≡ rowOf op
+all-unkeyed row arms a n t op from below rest =
+    known row op (rw (not-keyed arms op rest) at (every-from (isOr arms row) a n t op from below))
