@@ -164,3 +164,76 @@ fn row_of(op: u8) -> Row
         _ => Row::Unmodelled,
     }
 }
+
+// The effect of `aload`, which names its local by a byte.
+fn load_effect(code: &[u8], pc: usize) -> Effect
+    requires { ⌜ pc < length (now code) ⌝ }
+    ensures { λ r. ⌜ effectFrom r ≡ bare (effectBy (lookupIn [] 0) (now (code .entry)) pc aloadRow) ⌝ }
+{
+    if code.len() - pc < 2 {
+        return Effect::Fails;
+    }
+    Effect::Load {
+        local: code[pc + 1] as usize,
+    }
+}
+
+// The effect of reading the field that the instruction at pc cites.
+fn get_effect(code: &[u8], members: &[u8], count: usize, pc: usize, takes: usize) -> Effect
+    requires { ⌜ pc < length (now code) ⌝ }
+    ensures { λ r. ⌜ effectFrom r ≡ bare (effectBy (lookupIn (now (members .entry)) count) (now (code .entry)) pc (getsRow takes)) ⌝ }
+{
+    if code.len() - pc < 3 {
+        return Effect::Fails;
+    }
+    let texts = casefile::find_member(members, count, bytecode::read_u16(code, pc + 1), 0);
+    if texts.len() == 0 {
+        return Effect::Fails;
+    }
+    Effect::Opaque {
+        takes,
+        args: 0,
+        gives: descriptor::slots_of_field_type(casefile::descriptor_of(texts)),
+    }
+}
+
+// The effect of calling the method that the instruction at pc cites.
+fn call_effect(code: &[u8], members: &[u8], count: usize, pc: usize, takes: usize) -> Effect
+    requires { ⌜ pc < length (now code) ⌝ }
+    ensures { λ r. ⌜ effectFrom r ≡ bare (effectBy (lookupIn (now (members .entry)) count) (now (code .entry)) pc (callsRow takes)) ⌝ }
+{
+    if code.len() - pc < 3 {
+        return Effect::Fails;
+    }
+    let texts = casefile::find_member(members, count, bytecode::read_u16(code, pc + 1), 1);
+    if texts.len() == 0 {
+        return Effect::Fails;
+    }
+    let signature = casefile::descriptor_of(texts);
+    let Params::Read { slots: args, end: _ } = descriptor::parse_method_params(signature) else {
+        return Effect::Fails;
+    };
+    let Slots::Slots(gives) = descriptor::return_type_slots(signature) else {
+        return Effect::Fails;
+    };
+    Effect::Opaque { takes, args, gives }
+}
+
+// The effect of the instruction at pc.
+fn effect_at(code: &[u8], members: &[u8], count: usize, pc: usize) -> Effect
+    requires { ⌜ pc < length (now code) ⌝ }
+    ensures { λ r. ⌜ effectFrom r ≡ bare (effectBy (lookupIn (now (members .entry)) count) (now (code .entry)) pc (rowOf (byteAt (now (code .entry)) pc))) ⌝ }
+{
+    match row_of(code[pc]) {
+        Row::Unmodelled => Effect::Fails,
+        Row::Opaque { takes, gives } => Effect::Opaque { takes, args: 0, gives },
+        Row::Aload => load_effect(code, pc),
+        Row::AloadOf { local } => Effect::Load { local },
+        Row::Dup => Effect::Dup,
+        Row::Dup2 => Effect::Dup2,
+        Row::Swap => Effect::Swap,
+        Row::Keeps => Effect::Opaque { takes: 0, args: 0, gives: 0 },
+        Row::Gets { takes } => get_effect(code, members, count, pc, takes),
+        Row::Calls { takes } => call_effect(code, members, count, pc, takes),
+    }
+}

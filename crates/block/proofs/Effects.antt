@@ -1,0 +1,89 @@
+-- What an effect is, by the tests that the code makes of its operands and its member.
+-- Assumes nothing.
+use Prim.Native.Nat.{ℕ, _+_, _≤_, _<_}
+use native.Mathlib.Omega.{arith}
+use mathlib.Core.Path.{_≡_, refl, _∙_, sym, ap}
+use mathlib.Core.List.{List, [], _∷_}
+use lib.Dec.{ltb}
+use lib.ListN.{length}
+use borrow.Author.Tests.{lt-ltb, le-ltb}
+use Rattle.basics.specs.Bytes.{byteAt, u16At}
+use Rattle.casefile.specs.Member.{memberFound}
+use Rattle.casefile.specs.Text.{descriptorOf}
+use Rattle.descriptor.specs.Readers.{parameters, returnSlots, fieldSlots}
+use Rattle.descriptor.specs.declared.Params.the-variants.{Read, Unreadable as NoParams}
+use Rattle.descriptor.specs.declared.Slots.the-variants.{Slots as SlotsOf, Unreadable as NoSlots}
+use Rattle.effects.specs.Lookup.{missing, known, knownBy, Lookup, lookupIn}
+use Rattle.effects.specs.Rows.{Row, aload, gets, calls, rowOf}
+use Rattle.block.specs.Cells.{rowFrom, bare}
+use Rattle.block.specs.Walk.{notModelled, blanks, load, Effect, fails, does, effectBy}
+use Rattle.block.specs.declared.Row.{Row as CodeRow}
+
+known-none : (texts : List ℕ) → length texts ≡ 0 → knownBy texts ≡ missing
+known-none [] e = refl
+known-none (x ∷ xs) e = absurd (omega arith)
+
+known-some : (texts : List ℕ) → (length texts ≡ 0 → ⊥) → knownBy texts ≡ known (descriptorOf texts)
+known-some [] some = absurd (some refl)
+known-some (x ∷ xs) some = refl
+
+module _ (code : List ℕ) (pc : ℕ) where
+  -- by the row that the code found
+  pub of-row :
+      (lookup : Lookup) (answer row : CodeRow) (effect : Effect) → rowFrom answer ≡ rowOf (byteAt code pc) → answer ≡ row →
+      effect ≡ bare (effectBy lookup code pc (rowFrom row)) → effect ≡ bare (effectBy lookup code pc (rowOf (byteAt code pc)))
+  of-row lookup answer row effect found same e =
+      e ∙ ap (λ (r : Row). bare (effectBy lookup code pc r)) (ap rowFrom (sym same) ∙ found)
+
+  pub load-cut : (lookup : Lookup) → length code ≤ pc + 1 → fails notModelled ≡ bare (effectBy lookup code pc aload)
+  load-cut lookup l = rw (le-ltb (pc + 1) (length code) l)
+
+  pub loads : (lookup : Lookup) → pc + 1 < length code → does 0 (load (byteAt code (pc + 1))) ≡ bare (effectBy lookup code pc aload)
+  loads lookup l = rw (lt-ltb (pc + 1) (length code) l)
+
+  pub get-cut : (lookup : Lookup) (takes : ℕ) → length code ≤ pc + 2 → fails notModelled ≡ bare (effectBy lookup code pc (gets takes))
+  get-cut lookup takes l = rw (le-ltb (pc + 2) (length code) l)
+
+  pub call-cut : (lookup : Lookup) (takes : ℕ) → length code ≤ pc + 2 → fails notModelled ≡ bare (effectBy lookup code pc (calls takes))
+  call-cut lookup takes l = rw (le-ltb (pc + 2) (length code) l)
+
+  -- texts: the part that the lookup hands back
+  module _ (members : List ℕ) (count takes index : ℕ) (texts : List ℕ) (whole : pc + 2 < length code) (cites : index ≡ u16At code (pc + 1)) where
+    abbrev Gets : Effect → Type 0
+    Gets effect = effect ≡ bare (effectBy (lookupIn members count) code pc (gets takes))
+
+    abbrev Calls : Effect → Type 0
+    Calls effect = effect ≡ bare (effectBy (lookupIn members count) code pc (calls takes))
+
+    pub get-missing : texts ≡ memberFound members index 0 count 0 0 → length texts ≡ 0 → Gets (fails notModelled)
+    unfolding lookupIn
+    get-missing found none = rw (lt-ltb (pc + 2) (length code) whole, ← cites, ← found, known-none texts none)
+
+    pub got :
+        (slots : ℕ) → texts ≡ memberFound members index 0 count 0 0 → (length texts ≡ 0 → ⊥) →
+        slots ≡ fieldSlots (descriptorOf texts) → Gets (does (takes + 0) (blanks slots))
+    unfolding lookupIn
+    got slots found some e =
+        let none : takes + 0 ≡ takes = omega arith in
+        rw (lt-ltb (pc + 2) (length code) whole, ← cites, ← found, known-some texts some, none, e)
+
+    pub call-missing : texts ≡ memberFound members index 1 count 0 0 → length texts ≡ 0 → Calls (fails notModelled)
+    unfolding lookupIn
+    call-missing found none = rw (lt-ltb (pc + 2) (length code) whole, ← cites, ← found, known-none texts none)
+
+    module _ (found : texts ≡ memberFound members index 1 count 0 0) (some : length texts ≡ 0 → ⊥) where
+      pub call-unread : parameters (descriptorOf texts) ≡ NoParams → Calls (fails notModelled)
+      unfolding lookupIn
+      call-unread p = rw (lt-ltb (pc + 2) (length code) whole, ← cites, ← found, known-some texts some, p)
+
+      pub call-endless :
+          (args end : ℕ) → parameters (descriptorOf texts) ≡ Read args end → returnSlots (descriptorOf texts) ≡ NoSlots →
+          Calls (fails notModelled)
+      unfolding lookupIn
+      call-endless args end p r = rw (lt-ltb (pc + 2) (length code) whole, ← cites, ← found, known-some texts some, p, r)
+
+      pub called :
+          (args end gives : ℕ) → parameters (descriptorOf texts) ≡ Read args end → returnSlots (descriptorOf texts) ≡ SlotsOf gives →
+          Calls (does (takes + args) (blanks gives))
+      unfolding lookupIn
+      called args end gives p r = rw (lt-ltb (pc + 2) (length code) whole, ← cites, ← found, known-some texts some, p, r)
