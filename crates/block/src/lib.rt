@@ -237,3 +237,105 @@ fn effect_at(code: &[u8], members: &[u8], count: usize, pc: usize) -> Effect
         Row::Calls { takes } => call_effect(code, members, count, pc, takes),
     }
 }
+
+fn clear(stack: &mut [u64])
+    ensures { λ r. ⌜ now (stack .exit) ≡ replicate (length (now (stack .entry))) 0 ⌝ }
+{
+    let mut i = 0;
+    while i < stack.len() {
+        stack[i] = 0;
+        i += 1;
+    }
+}
+
+// Takes slots and pushes opaque ones, which are zero.
+fn push_opaque(stack: &mut [u64], height: usize, takes: usize, args: usize, gives: usize) -> Height
+    requires { ⌜ Clean (now stack) height ⌝ }
+    ensures { λ r. ⌜ Laid (now (stack .entry)) r (now (stack .exit)) (applied cells 0 (does (takes + args) (blanks gives)) (take height (now (stack .entry)))) ⌝ }
+{
+    if height < args {
+        return Height::Refused;
+    }
+    let above = height - args;
+    if above < takes {
+        return Height::Refused;
+    }
+    let start = above - takes;
+    if stack.len() - start < gives {
+        return Height::Over;
+    }
+    clear(&mut stack[start..height]);
+    Height::High(start + gives)
+}
+
+// Pushes the load of a local.
+fn push_load(stack: &mut [u64], height: usize, pc: usize, local: usize) -> Height
+    requires { ⌜ Clean (now stack) height ⌝ }
+    ensures { λ r. ⌜ Laid (now (stack .entry)) r (now (stack .exit)) (applied cells pc (does 0 (loadPush local)) (take height (now (stack .entry)))) ⌝ }
+{
+    let Cell::Held(cell) = pack(pc, local) else {
+        return Height::Refused;
+    };
+    if stack.len() <= height {
+        return Height::Over;
+    }
+    stack[height] = cell;
+    Height::High(height + 1)
+}
+
+fn push_dup(stack: &mut [u64], height: usize) -> Height
+    requires { ⌜ Clean (now stack) height ⌝ }
+    ensures { λ r. ⌜ Laid (now (stack .entry)) r (now (stack .exit)) (applied cells 0 (does 1 (carried dupPlaces)) (take height (now (stack .entry)))) ⌝ }
+{
+    if height < 1 {
+        return Height::Refused;
+    }
+    if stack.len() <= height {
+        return Height::Over;
+    }
+    stack[height] = stack[height - 1];
+    Height::High(height + 1)
+}
+
+fn push_dup2(stack: &mut [u64], height: usize) -> Height
+    requires { ⌜ Clean (now stack) height ⌝ }
+    ensures { λ r. ⌜ Laid (now (stack .entry)) r (now (stack .exit)) (applied cells 0 (does 2 (carried dup2Places)) (take height (now (stack .entry)))) ⌝ }
+{
+    if height < 2 {
+        return Height::Refused;
+    }
+    if stack.len() - height < 2 {
+        return Height::Over;
+    }
+    stack[height] = stack[height - 2];
+    stack[height + 1] = stack[height - 1];
+    Height::High(height + 2)
+}
+
+fn swap_top(stack: &mut [u64], height: usize) -> Height
+    requires { ⌜ Clean (now stack) height ⌝ }
+    ensures { λ r. ⌜ Laid (now (stack .entry)) r (now (stack .exit)) (applied cells 0 (does 2 (carried swapPlaces)) (take height (now (stack .entry)))) ⌝ }
+{
+    if height < 2 {
+        return Height::Refused;
+    }
+    let top = stack[height - 1];
+    stack[height - 1] = stack[height - 2];
+    stack[height - 2] = top;
+    Height::High(height)
+}
+
+// Applies an effect to the slots of a height.
+fn apply(stack: &mut [u64], height: usize, pc: usize, effect: Effect) -> Height
+    requires { ⌜ Clean (now stack) height ⌝ }
+    ensures { λ r. ⌜ Laid (now (stack .entry)) r (now (stack .exit)) (applied cells pc (effectFrom effect) (take height (now (stack .entry)))) ⌝ }
+{
+    match effect {
+        Effect::Fails => Height::Refused,
+        Effect::Opaque { takes, args, gives } => push_opaque(stack, height, takes, args, gives),
+        Effect::Load { local } => push_load(stack, height, pc, local),
+        Effect::Dup => push_dup(stack, height),
+        Effect::Dup2 => push_dup2(stack, height),
+        Effect::Swap => swap_top(stack, height),
+    }
+}
