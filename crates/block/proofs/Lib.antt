@@ -1,3 +1,4 @@
 pub mod Effects
 pub mod Laying
 pub mod OfOpcode
+pub mod Stepping

@@ -6,13 +6,15 @@ ghost use mathlib.Core.Path.{_≡_};
 ghost use mathlib.Core.List.{List, []};
 ghost use Prim.Native.Nat.{ℕ, _+_, _<_};
 ghost use lib.ListN.{length, take, replicate};
+ghost use lib.Dec.{leb};
 ghost use Rattle.basics.specs.Bytes.{byteAt};
+ghost use Rattle.basics.specs.Choice.{pick};
 ghost use Rattle.effects.specs.Lookup.{lookupIn};
 ghost use Rattle.effects.specs.Rows.{rowOf, aload as aloadRow, gets as getsRow, calls as callsRow};
 ghost use Rattle.block.specs.Cells.{packed, unpacked, dupPlaces, dup2Places, swapPlaces, rowFrom, effectFrom, bare, Clean, Laid, Stepped};
 ghost use Rattle.block.specs.Room.{blockWalk, answerOf, cellsOf};
 ghost use Rattle.block.specs.Walk.{cells, blanks, load as loadPush, carried, does, effectBy, applied, made, landed, step as stepAt};
-ghost use Rattle.block.specs.Cells.{stepOf};
+ghost use Rattle.block.specs.declared.Step.the-variants.{Goes, Passes};
 
 // What a walk answers.
 pub enum Walk {
@@ -337,5 +339,34 @@ fn apply(stack: &mut [u64], height: usize, pc: usize, effect: Effect) -> Height
         Effect::Dup => push_dup(stack, height),
         Effect::Dup2 => push_dup2(stack, height),
         Effect::Swap => swap_top(stack, height),
+    }
+}
+
+// How an instruction ends that leaves a height: it goes on behind its bytes, or passes the fault.
+fn land(pc: usize, fault: usize, size: usize, height: usize) -> Step
+    requires { ⌜ pc < fault ⌝ }
+    ensures { λ r. ⌜ r ≡ pick (leb (pc + size) fault) (Goes (pc + size) height) Passes ⌝ }
+{
+    if fault - pc < size {
+        return Step::Passes;
+    }
+    Step::Goes { pc: pc + size, height }
+}
+
+// One instruction.
+fn step_at(code: &[u8], members: &[u8], count: usize, pc: usize, fault: usize, stack: &mut [u64], height: usize) -> Step
+    requires { ⌜ Clean (now stack) height ⌝ }
+    requires { ⌜ pc < fault ⌝ }
+    ensures { λ r. ⌜ Stepped (now (stack .entry)) r (now (stack .exit)) (stepAt cells rowOf (lookupIn (now (members .entry)) count) (now (code .entry)) fault pc (take height (now (stack .entry)))) ⌝ }
+{
+    if code.len() <= pc {
+        return Step::Stops;
+    }
+    let effect = effect_at(code, members, count, pc);
+    let size = bytecode::fixed_length(code[pc]) as usize;
+    match apply(stack, height, pc, effect) {
+        Height::Refused => Step::Stops,
+        Height::Over => Step::Lacks,
+        Height::High(next) => land(pc, fault, size, next),
     }
 }
