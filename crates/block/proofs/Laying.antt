@@ -91,7 +91,7 @@ module _ (c : List ℕ) (h : ℕ) (clean : Clean c h) where
   blank-shown takes gives l fits =
       let none : drop h c ≡ replicate (length c - h) 0 = ap (λ (k : ℕ). drop k c) plus ∙ zeros 0 ∙ ap (λ (k : ℕ). replicate (length c - k) 0) (sym plus) in
       let all : takes + (length c - h) ≡ gives + (length c - length (take (h - takes) c ++ replicate gives 0)) =
-          omega (arith, blank-length takes gives, clean .high) in
+      omega (arith, blank-length takes gives, clean .high) in
       ap (λ (l : List ℕ). take (h - takes) c ++ l)
       (ap (λ (l : List ℕ). replicate takes 0 ++ l) none
       ∙ replicate-append-replicate takes (length c - h) 0
@@ -143,7 +143,7 @@ module _ (c : List ℕ) (h : ℕ) (clean : Clean c h) where
   pub load-refused : (pc local : ℕ) → packed pc local ≡ TooLarge → Laid c Refused c (applied cells pc (does 0 (load local)) slots)
   load-refused pc local e =
       let is : applied cells pc (does 0 (load local)) slots ≡ refused tooLarge =
-          enough pc 0 (load local) (omega arith) ∙ rw (too-large pc local e) in
+      enough pc 0 (load local) (omega arith) ∙ rw (too-large pc local e) in
       rw is (record { answers = refl; leaves = refl })
 
   pub load-over :
@@ -187,17 +187,17 @@ module _ (c : List ℕ) (h : ℕ) (clean : Clean c h) where
   dup-is pc l =
       enough pc 1 (carried dupPlaces) l
       ∙ ap made
-        (rw (slot 1 (omega arith) l)
-        (sym (append-assoc (take (h - 1) c) (from-top 1 ∷ []) (from-top 1 ∷ [])) ∙ ap (λ (s : List ℕ). s ++ from-top 1 ∷ []) (sym (last l))))
+      (rw (slot 1 (omega arith) l)
+      (sym (append-assoc (take (h - 1) c) (from-top 1 ∷ []) (from-top 1 ∷ [])) ∙ ap (λ (s : List ℕ). s ++ from-top 1 ∷ []) (sym (last l))))
 
   pub dup2-is :
       (pc : ℕ) → 2 ≤ h → applied cells pc (does 2 (carried dup2Places)) slots ≡ made (slots ++ (from-top 2 ∷ from-top 1 ∷ []))
   dup2-is pc l =
       enough pc 2 (carried dup2Places) l
       ∙ ap made
-        (rw (slot 1 (omega arith) (omega arith), slot 2 (omega arith) l)
-        (sym (append-assoc (take (h - 2) c) (from-top 2 ∷ from-top 1 ∷ []) (from-top 2 ∷ from-top 1 ∷ []))
-        ∙ ap (λ (s : List ℕ). s ++ (from-top 2 ∷ from-top 1 ∷ [])) (sym (last-two l))))
+      (rw (slot 1 (omega arith) (omega arith), slot 2 (omega arith) l)
+      (sym (append-assoc (take (h - 2) c) (from-top 2 ∷ from-top 1 ∷ []) (from-top 2 ∷ from-top 1 ∷ []))
+      ∙ ap (λ (s : List ℕ). s ++ (from-top 2 ∷ from-top 1 ∷ [])) (sym (last-two l))))
 
   pub swap-is :
       (pc : ℕ) → 2 ≤ h →
@@ -214,10 +214,10 @@ module _ (c : List ℕ) (h : ℕ) (clean : Clean c h) where
       let a : ℕ = from-top 1 in
       let b : ℕ = from-top 2 in
       let once : set slots (h - 1) b ≡ take (h - 2) c ++ (b ∷ b ∷ []) =
-          ap (λ (s : List ℕ). set s (h - 1) b) (last (omega arith)) ∙ set-at (take (h - 1) c) a [] b (h - 1) (kept-length 1)
-          ∙ ap (λ (s : List ℕ). s ++ b ∷ []) (last-but l) ∙ append-assoc (take (h - 2) c) (b ∷ []) (b ∷ []) in
+      ap (λ (s : List ℕ). set s (h - 1) b) (last (omega arith)) ∙ set-at (take (h - 1) c) a [] b (h - 1) (kept-length 1)
+      ∙ ap (λ (s : List ℕ). s ++ b ∷ []) (last-but l) ∙ append-assoc (take (h - 2) c) (b ∷ []) (b ∷ []) in
       let twice : set (set slots (h - 1) b) (h - 2) a ≡ take (h - 2) c ++ (a ∷ b ∷ []) =
-          ap (λ (s : List ℕ). set s (h - 2) a) once ∙ set-at (take (h - 2) c) b (b ∷ []) a (h - 2) (kept-length 2) in
+      ap (λ (s : List ℕ). set s (h - 2) a) once ∙ set-at (take (h - 2) c) b (b ∷ []) a (h - 2) (kept-length 2) in
       let zero-on : h ≡ h + 0 = omega arith in
       shows (length c) (set (set c (h - 1) b) (h - 2) a) (take (h - 2) c ++ (a ∷ b ∷ []))
       (ap (λ (k : ℕ). take k (set (set c (h - 1) b) (h - 2) a)) (swap-length l)
@@ -233,7 +233,7 @@ module _ (c : List ℕ) (h : ℕ) (clean : Clean c h) where
 pub clean-shown : (room : ℕ) (slots : List ℕ) → length slots ≤ room → Clean (shown room slots) (length slots)
 clean-shown room slots fits =
     let size : length (shown room slots) ≡ room =
-        omega (arith, length-append slots (replicate (room - length slots) 0), length-replicate {A = ℕ} (room - length slots) 0) in
+    omega (arith, length-append slots (replicate (room - length slots) 0), length-replicate {A = ℕ} (room - length slots) 0) in
     record {
       high = omega (arith, size);
       zeros = sym (ap₂ shown size (take-at slots (replicate (room - length slots) 0) (length slots) refl));
@@ -251,7 +251,7 @@ module _ (c : List ℕ) (h : ℕ) (clean : Clean c h) where
       let whole : length (shown (length c) first) ≡ length c = ap length (sym once) ∙ length-set c h u in
       let start : take (length first) (shown (length c) first) ≡ first = take-at first (replicate (length c - length first) 0) (length first) refl in
       let twice : set (shown (length c) first) (length first) v ≡ shown (length (shown (length c) first)) (take (length first) (shown (length c) first) ++ v ∷ []) =
-          top-shown (shown (length c) first) (length first) (clean-shown (length c) first (omega arith)) v (omega (arith, whole)) in
+      top-shown (shown (length c) first) (length first) (clean-shown (length c) first (omega arith)) v (omega (arith, whole)) in
       ap₂ (λ (s : List ℕ) (k : ℕ). set s k v) once (sym size) ∙ twice
       ∙ ap₂ (λ (k : ℕ) (s : List ℕ). shown k (s ++ v ∷ [])) whole start
       ∙ ap (shown (length c)) (append-assoc (take h c) (u ∷ []) (v ∷ []))

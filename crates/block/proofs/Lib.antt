@@ -2,3 +2,4 @@ pub mod Effects
 pub mod Laying
 pub mod OfOpcode
 pub mod Stepping
+pub mod Walking

@@ -60,8 +60,14 @@ pub enum Row {
 // What an instruction does to the slots, its operands read.
 pub enum Effect {
     Fails,
-    Opaque { takes: usize, args: usize, gives: usize },
-    Load { local: usize },
+    Opaque {
+        takes: usize,
+        args: usize,
+        gives: usize,
+    },
+    Load {
+        local: usize,
+    },
     Dup,
     Dup2,
     Swap,
@@ -157,7 +163,9 @@ fn row_of(op: u8) -> Row
         Opcode::IINC => Row::Opaque { takes: 0, gives: 0 },
         Opcode::GETSTATIC => Row::Gets { takes: 0 },
         Opcode::GETFIELD => Row::Gets { takes: 1 },
-        Opcode::INVOKEVIRTUAL | Opcode::INVOKESPECIAL | Opcode::INVOKEINTERFACE => Row::Calls { takes: 1 },
+        Opcode::INVOKEVIRTUAL | Opcode::INVOKESPECIAL | Opcode::INVOKEINTERFACE => Row::Calls {
+            takes: 1,
+        },
         Opcode::INVOKESTATIC => Row::Calls { takes: 0 },
         Opcode::NEW => Row::Opaque { takes: 0, gives: 1 },
         Opcode::NEWARRAY..=Opcode::ARRAYLENGTH => Row::Opaque { takes: 1, gives: 1 },
@@ -212,7 +220,11 @@ fn call_effect(code: &[u8], members: &[u8], count: usize, pc: usize, takes: usiz
         return Effect::Fails;
     }
     let signature = casefile::descriptor_of(texts);
-    let Params::Read { slots: args, end: _ } = descriptor::parse_method_params(signature) else {
+    let Params::Read {
+        slots: args,
+        end: _,
+    } = descriptor::parse_method_params(signature)
+    else {
         return Effect::Fails;
     };
     let Slots::Slots(gives) = descriptor::return_type_slots(signature) else {
@@ -228,13 +240,21 @@ fn effect_at(code: &[u8], members: &[u8], count: usize, pc: usize) -> Effect
 {
     match row_of(code[pc]) {
         Row::Unmodelled => Effect::Fails,
-        Row::Opaque { takes, gives } => Effect::Opaque { takes, args: 0, gives },
+        Row::Opaque { takes, gives } => Effect::Opaque {
+            takes,
+            args: 0,
+            gives,
+        },
         Row::Aload => load_effect(code, pc),
         Row::AloadOf { local } => Effect::Load { local },
         Row::Dup => Effect::Dup,
         Row::Dup2 => Effect::Dup2,
         Row::Swap => Effect::Swap,
-        Row::Keeps => Effect::Opaque { takes: 0, args: 0, gives: 0 },
+        Row::Keeps => Effect::Opaque {
+            takes: 0,
+            args: 0,
+            gives: 0,
+        },
         Row::Gets { takes } => get_effect(code, members, count, pc, takes),
         Row::Calls { takes } => call_effect(code, members, count, pc, takes),
     }
@@ -350,11 +370,22 @@ fn land(pc: usize, fault: usize, size: usize, height: usize) -> Step
     if fault - pc < size {
         return Step::Passes;
     }
-    Step::Goes { pc: pc + size, height }
+    Step::Goes {
+        pc: pc + size,
+        height,
+    }
 }
 
 // One instruction.
-fn step_at(code: &[u8], members: &[u8], count: usize, pc: usize, fault: usize, stack: &mut [u64], height: usize) -> Step
+fn step_at(
+    code: &[u8],
+    members: &[u8],
+    count: usize,
+    pc: usize,
+    fault: usize,
+    stack: &mut [u64],
+    height: usize,
+) -> Step
     requires { ⌜ Clean (now stack) height ⌝ }
     requires { ⌜ pc < fault ⌝ }
     ensures { λ r. ⌜ Stepped (now (stack .entry)) r (now (stack .exit)) (stepAt cells rowOf (lookupIn (now (members .entry)) count) (now (code .entry)) fault pc (take height (now (stack .entry)))) ⌝ }
@@ -369,4 +400,56 @@ fn step_at(code: &[u8], members: &[u8], count: usize, pc: usize, fault: usize, s
         Height::Over => Step::Lacks,
         Height::High(next) => land(pc, fault, size, next),
     }
+}
+
+// Walks from the leader to the fault, over the lent stack.
+pub fn simulate_block(
+    code: &[u8],
+    members: &[u8],
+    count: usize,
+    leader: usize,
+    fault: usize,
+    stack: &mut [u64],
+) -> Walk
+    ensures answers { λ r. ⌜ r ≡ answerOf (blockWalk (now (code .entry)) (now (members .entry)) count leader fault (length (now (stack .entry)))) ⌝ }
+    ensures leaves { λ r. ⌜ now (stack .exit) ≡ cellsOf (length (now (stack .entry))) (blockWalk (now (code .entry)) (now (members .entry)) count leader fault (length (now (stack .entry)))) ⌝ }
+{
+    clear(stack);
+    let mut pc = leader;
+    let mut height: usize = 0;
+    let mut completed: usize = 0;
+    while pc < fault {
+        match step_at(code, members, count, pc, fault, stack, height) {
+            Step::Stops => {
+                clear(stack);
+                return Walk::Failed { count: completed };
+            }
+            Step::Lacks => {
+                clear(stack);
+                return Walk::NoRoom { at: pc };
+            }
+            Step::Passes => {
+                clear(stack);
+                return Walk::Failed {
+                    count: completed + 1,
+                };
+            }
+            Step::Goes {
+                pc: next,
+                height: high,
+            } => {
+                pc = next;
+                height = high;
+                completed += 1;
+            }
+        }
+    }
+    if pc == fault {
+        return Walk::Done {
+            height,
+            count: completed,
+        };
+    }
+    clear(stack);
+    Walk::Failed { count: completed }
 }

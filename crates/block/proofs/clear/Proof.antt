@@ -33,8 +33,7 @@ loop-less c = omega arith
 loop-again : tie.Need-loop-again Inv-loop μ-loop
 loop-again c =
     let i = c .before .loop .i in
-    let whole = c .before .before .args .stack .now in
-    (
+    let whole = c .before .before .args .stack .now in (
       omega arith,
       simp length-set (omega arith),
       ap (λ (l : List ℕ). set l i 0) (c .before .loop .inv .2) ∙ fill-more i 0 whole (omega arith),
