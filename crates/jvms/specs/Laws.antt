@@ -1,5 +1,5 @@
--- Laws of the plain machine, for every type of values, pool, code, opaque results and state. They speak of opcodes by their
--- numbers in JVMS 6.5 and not by the table of entries, so that the table is held to them. proofs/Laws.antt has their proof.
+-- Laws of the plain machine, for every type of values, pool, code, opaque results and state. They name opcodes by their numbers
+-- in JVMS 6.5, so that the tables of entries and formats are held to them. proofs/Laws.antt has their proof.
 -- Assumes nothing.
 use Prim.Native.Nat.{ℕ, suc, _+_, _-_, _%_, _≤_, _<_}
 use mathlib.Core.Path.{_≡_}
@@ -165,7 +165,7 @@ pub record MachineLaws (Val : Type 0) (pool : Pool) (code : List ℕ) (opaque : 
   pub lists : (op : ℕ) → op < 256 → isListed (entryOf op) ≡ listed op
   -- a listed opcode has a fixed format
   pub fixedSize : (pc : ℕ) → T (isListed (entryOf (byteAt code pc))) → FixedSize code pc
-  -- the machine goes on behind the instruction, by bytes counted here; behind an invokeinterface by five
+  -- the machine goes on behind it, by the bytes counted above; behind an invokeinterface by five
   pub steps :
       (st : State Val) → T (isListed (entryOf (byteAt code (st .pc)))) → (byteAt code (st .pc) ≡ 191 → ⊥) →
       next pool code opaque st .pc ≡ st .pc + bytesOf (byteAt code (st .pc))
