@@ -1,2 +1,12 @@
+pub mod Copy
+pub mod Entries
+pub mod Forms
+pub mod Keeps
+pub mod Laws
+pub mod Loads
+pub mod Locals
 pub mod Rendering
 pub mod Reserved
+pub mod Sizes
+pub mod Slots
+pub mod Stores

@@ -2,5 +2,6 @@ pub mod Branch
 pub mod Descriptor
 pub mod Extent
 pub mod Format
+pub mod Laws
 pub mod Machine
 pub mod Stack

@@ -1,0 +1,155 @@
+-- What the table of entries says of loads and stores: of how many slots they are and which local they name. Each fact about
+-- opcodes is one computed test.
+-- Assumes nothing.
+use Prim.Native.Nat.{ℕ, zero, suc, _-_, _%_, _≤_}
+use native.Mathlib.Nat.{add-zero, le-of-suc-le-suc, not-suc-le-zero}
+use mathlib.Core.Path.{_≡_, refl, _∙_, sym, subst}
+use mathlib.Core.Bool.{Bool, true, false}
+use mathlib.Core.List.{List, [], _∷_}
+use lib.Dec.{T, eqb, leb, ltb, eqb→eq, leb→le}
+use lib.ListN.{length}
+use borrow.Author.Tests.{eqb-true, le-leb, ltb-true, ltb-false}
+use Rattle.basics.specs.Bytes.{byteAt}
+use Rattle.basics.specs.Choice.{pick, both, alike, oneOf}
+use Rattle.basics.proofs.Every.{both-first, both-second, alike-is, every, every-at}
+use Rattle.jvms.specs.Laws.{oneSlotLoads, twoSlotLoads, oneSlotStores, twoSlotStores, localNamed}
+use Rattle.jvms.specs.Machine.{localAt}
+use Rattle.jvms.specs.Stack.{Operand, int, long, float, double, reference, category1, category2, field, parameters}
+use Rattle.jvms.specs.Stack.{Local, indexed, numbered, Entry, unlisted, does, eitherOf, loads, stores, increments, throws}
+use Rattle.jvms.specs.Stack.{returned, Cited, slotsOf, slotsIn, entries, entryIn, entryOf}
+
+-- ---- tests at the opcodes of a list, and at every entry of the table
+
+-- the test passes at each number of the list
+abbrev all : (ℕ → Bool) → List ℕ → Bool
+all test [] = true
+all test (op ∷ ops) = both (test op) (all test ops)
+
+all-at : (test : ℕ → Bool) (ops : List ℕ) → T (all test ops) → (op : ℕ) → T (oneOf ops op) → T (test op)
+all-at test [] t op among = absurd among
+all-at test (x ∷ ops) t op among =
+    by-head (eqb op x) refl among (all-at test ops (both-second (test x) (all test ops) t) op)
+  where
+    by-head : (b : Bool) → eqb op x ≡ b → T (pick b true (oneOf ops op)) → (T (oneOf ops op) → T (test op)) → T (test op)
+    by-head true e u rest = subst (λ (k : ℕ). T (test k)) (sym (eqb-true op x e)) (both-first (test x) (all test ops) t)
+    by-head false e u rest = rest u
+
+-- past the end of a table there is no entry
+past : (es : List Entry) (op : ℕ) → length es ≤ op → entryIn es op ≡ unlisted
+past [] op h = refl
+past (e ∷ es) zero h = absurd (not-suc-le-zero h)
+past (e ∷ es) (suc op) h = past es op (le-of-suc-le-suc h)
+
+unlisted-from-202 : (op : ℕ) → 202 ≤ op → entryOf op ≡ unlisted
+unfolding entries entryOf
+unlisted-from-202 op h = past entries op h
+
+-- a test of opcode and entry that passes in the table, and at an opcode that has no entry
+pub every-entry :
+    (test : ℕ → Entry → Bool) → T (every (λ op. test op (entryOf op)) 202) → ((op : ℕ) → T (test op unlisted)) →
+    (op : ℕ) → T (test op (entryOf op))
+every-entry test t none op = by-place (ltb op 202) refl
+  where
+    by-place : (b : Bool) → ltb op 202 ≡ b → T (test op (entryOf op))
+    by-place true e = every-at (λ k. test k (entryOf k)) 202 t op (ltb-true op 202 e)
+    by-place false e = rw (unlisted-from-202 op (ltb-false op 202 e)) (none op)
+
+-- ---- slots that no cited member changes
+
+abbrev weighs : ℕ → Operand → Bool
+weighs slots (int n) = eqb 1 slots
+weighs slots (long n) = eqb 2 slots
+weighs slots (float n) = eqb 1 slots
+weighs slots (double n) = eqb 2 slots
+weighs slots (reference n) = eqb 1 slots
+weighs slots (category1 n) = eqb 1 slots
+weighs slots (category2 n) = eqb 2 slots
+weighs slots (field n) = false
+weighs slots (parameters n) = false
+weighs slots (returned n) = false
+
+pub weighed : (cited : Cited) (slots : ℕ) (o : Operand) → T (weighs slots o) → slotsOf cited o ≡ slots
+weighed cited slots (int n) t = eqb→eq 1 slots t
+weighed cited slots (long n) t = eqb→eq 2 slots t
+weighed cited slots (float n) t = eqb→eq 1 slots t
+weighed cited slots (double n) t = eqb→eq 2 slots t
+weighed cited slots (reference n) t = eqb→eq 1 slots t
+weighed cited slots (category1 n) t = eqb→eq 1 slots t
+weighed cited slots (category2 n) t = eqb→eq 2 slots t
+weighed cited slots (field n) t = absurd t
+weighed cited slots (parameters n) t = absurd t
+weighed cited slots (returned n) t = absurd t
+
+-- one operand, of so many slots
+abbrev pub single : ℕ → List Operand → Bool
+single slots [] = false
+single slots (o ∷ []) = weighs slots o
+single slots (o ∷ p ∷ os) = false
+
+pub single-slots : (cited : Cited) (slots : ℕ) (os : List Operand) → T (single slots os) → slotsIn cited os ≡ slots
+single-slots cited slots [] t = absurd t
+single-slots cited slots (o ∷ []) t = add-zero (slotsOf cited o) ∙ weighed cited slots o t
+single-slots cited slots (o ∷ p ∷ os) t = absurd t
+
+abbrev pub isNone : List Operand → Bool
+isNone [] = true
+isNone (o ∷ os) = false
+
+pub none-is : (os : List Operand) → T (isNone os) → os ≡ []
+none-is [] t = refl
+none-is (o ∷ os) t = absurd t
+
+-- ---- which local
+
+-- by the byte behind the opcode up to the last opcode that has one, above it by the number in the name
+abbrev pub names : ℕ → Local → ℕ → Bool
+names last indexed op = leb op last
+names last (numbered n) op = both (alike (leb op last) false) (eqb n ((op - suc last) % 4))
+
+pub named :
+    (last : ℕ) (l : Local) (code : List ℕ) (pc : ℕ) → T (names last l (byteAt code pc)) →
+    localAt code pc l ≡ localNamed last code pc
+named last indexed code pc t = rw (le-leb (byteAt code pc) last (leb→le (byteAt code pc) last t))
+named last (numbered n) code pc t =
+    let op = byteAt code pc in
+    let above = both-first (alike (leb op last) false) (eqb n ((op - suc last) % 4)) t in
+    let number = both-second (alike (leb op last) false) (eqb n ((op - suc last) % 4)) t in
+    rw (alike-is (leb op last) false above) (eqb→eq n ((op - suc last) % 4) number)
+
+-- ---- stores and loads
+
+-- one operand goes into the local and nothing is left; the last store with a byte behind it is astore, 58
+abbrev pub isStore : ℕ → ℕ → Entry → Bool
+isStore slots op unlisted = false
+isStore slots op (does f) = false
+isStore slots op (eitherOf f g) = false
+isStore slots op (loads l f) = false
+isStore slots op (stores l f) = both (names 58 l op) (both (single slots (f .before)) (isNone (f .after)))
+isStore slots op (increments f) = false
+isStore slots op (throws os) = false
+
+-- nothing is taken and one result comes from the local; the last load with a byte behind it is aload, 25
+abbrev pub isLoad : ℕ → ℕ → Entry → Bool
+isLoad slots op unlisted = false
+isLoad slots op (does f) = false
+isLoad slots op (eitherOf f g) = false
+isLoad slots op (loads l f) = both (names 25 l op) (both (isNone (f .before)) (single slots (f .after)))
+isLoad slots op (stores l f) = false
+isLoad slots op (increments f) = false
+isLoad slots op (throws os) = false
+
+pub one-slot-stores : (op : ℕ) → T (oneOf oneSlotStores op) → T (isStore 1 op (entryOf op))
+unfolding entries entryOf
+one-slot-stores = all-at (λ op. isStore 1 op (entryOf op)) oneSlotStores tt
+
+pub two-slot-stores : (op : ℕ) → T (oneOf twoSlotStores op) → T (isStore 2 op (entryOf op))
+unfolding entries entryOf
+two-slot-stores = all-at (λ op. isStore 2 op (entryOf op)) twoSlotStores tt
+
+pub one-slot-loads : (op : ℕ) → T (oneOf oneSlotLoads op) → T (isLoad 1 op (entryOf op))
+unfolding entries entryOf
+one-slot-loads = all-at (λ op. isLoad 1 op (entryOf op)) oneSlotLoads tt
+
+pub two-slot-loads : (op : ℕ) → T (oneOf twoSlotLoads op) → T (isLoad 2 op (entryOf op))
+unfolding entries entryOf
+two-slot-loads = all-at (λ op. isLoad 2 op (entryOf op)) twoSlotLoads tt
