@@ -1,6 +1,6 @@
 -- The plain machine of condition 3 (document 01, "The plain machine"), on values of any type, one to a slot. Written from JVMS
 -- 6.5 alone. The stack is a list, bottom first. Locals are a function of every number; nothing above 256 is read or written.
--- No instruction throws. One that has no entry or no length is never left.
+-- No instruction throws. One that has no entry or no length is never left, and neither is athrow.
 -- Assumes nothing.
 use Prim.Native.Nat.{ℕ, zero, suc, _+_, _-_}
 use mathlib.Core.Bool.{Bool, true, false}

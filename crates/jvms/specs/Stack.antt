@@ -1,6 +1,7 @@
 -- The operand stack of JVMS 6.5: for every opcode that is modelled or dereferences, its operands and its results, by the names
 -- that JVMS writes, bottom first as JVMS draws them, and the locals that it reads and writes. Written from JVMS alone.
--- JVMS's `<i>`, `<l>`, `<f>`, `<d>` are `constant` here, its `length` is `size`, its `[arg1, [arg2 ...]]` is `args`.
+-- JVMS's `<i>`, `<l>`, `<f>`, `<d>` are `constant` here, its `length` is `size`, its `[arg1, [arg2 ...]]` is `args`. What an
+-- invoked method returns is its `result` here: JVMS draws it at the return instruction, which pushes it.
 -- Assumes nothing.
 use Prim.Native.Nat.{ℕ, zero, suc, _+_}
 use mathlib.Core.Bool.{Bool}
@@ -51,7 +52,7 @@ pub record Cited : Type 0 where
   pub args : ℕ
   pub gives : ℕ
 
--- JVMS 2.6.2: "A value of type long or type double contributes two units to the depth and a value of any other type one"
+-- JVMS 2.6.2: "a value of type long or double contributes two units to the depth and a value of any other type contributes one unit"
 abbrev pub slotsOf : Cited → Operand → ℕ
 slotsOf cited (int n) = 1
 slotsOf cited (long n) = 2
