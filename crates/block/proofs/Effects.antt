@@ -13,19 +13,12 @@ use Rattle.casefile.specs.Text.{descriptorOf}
 use Rattle.descriptor.specs.Readers.{parameters, returnSlots, fieldSlots}
 use Rattle.descriptor.specs.declared.Params.the-variants.{Read, Unreadable as NoParams}
 use Rattle.descriptor.specs.declared.Slots.the-variants.{Slots as SlotsOf, Unreadable as NoSlots}
-use Rattle.effects.specs.Lookup.{missing, known, knownBy, Lookup, lookupIn}
+use Rattle.effects.specs.Lookup.{Lookup, lookupIn}
+use Rattle.effects.proofs.Known.{known-none, known-some}
 use Rattle.effects.specs.Rows.{Row, aload, gets, calls, rowOf}
 use Rattle.block.specs.Cells.{rowFrom, bare}
 use Rattle.block.specs.Walk.{notModelled, blanks, load, Effect, fails, does, effectBy}
 use Rattle.block.specs.declared.Row.{Row as CodeRow}
-
-known-none : (texts : List ℕ) → length texts ≡ 0 → knownBy texts ≡ missing
-known-none [] e = refl
-known-none (x ∷ xs) e = absurd (omega arith)
-
-known-some : (texts : List ℕ) → (length texts ≡ 0 → ⊥) → knownBy texts ≡ known (descriptorOf texts)
-known-some [] some = absurd (some refl)
-known-some (x ∷ xs) some = refl
 
 module _ (code : List ℕ) (pc : ℕ) where
   -- by the row that the code found

@@ -9,18 +9,12 @@ use borrow.Author.Needs.{needs}
 use Rattle.basics.specs.Ascii.{ascii}
 use Rattle.basics.specs.Choice.{pick, sameList}
 use Rattle.names.specs.Names.{className}
-use Rattle.basics.proofs.Same.{same-yes, same-no}
+use Rattle.basics.proofs.Same.{same-told}
 use Rattle.names.proofs.put_class_name.Statement.{statement}
 use Rattle.names.proofs.put_class_name.Tie as tie
 
 slice-aggregate-same : tie.Need-slice-aggregate-same
 slice-aggregate-same c = search needs
-
--- what `same` answers is the test of the two lists
-answers : (r : Bool) (xs ys : List ℕ) → (r ≡ true → xs ≡ ys) → (xs ≡ ys → r ≡ true) → sameList xs ys ≡ r
-answers true xs ys told back = same-yes xs ys (told refl)
-answers false xs ys told back =
-    same-no xs ys (λ e. let z : _≡_ {A = ℕ} 1 0 = ap (λ (b : Bool). pick b 0 1) (back e) in absurd (omega (arith, z)))
 
 same-requires : tie.Need-same-requires
 same-requires c κs = search needs
@@ -39,7 +33,7 @@ unfolding className
 returns c =
     let name = c .before .before .before .before .before .before .before .before .before .before .args .name .now in
     let s = c .before .before .before .before .before .before .same in
-    rw (answers (s .result) name (ascii "java/lang/String") (s .ensures .0) (s .ensures .1) ∙ c .before .before .before .before .before .if1 .taken) (c .before .before .put .ensures)
+    rw (same-told (s .result) name (ascii "java/lang/String") (s .ensures .0) (s .ensures .1) ∙ c .before .before .before .before .before .if1 .taken) (c .before .before .put .ensures)
 
 slice-aggregate-same-2 : tie.Need-slice-aggregate-same-2
 slice-aggregate-same-2 c = search needs
@@ -63,8 +57,8 @@ returns-2 c =
     let s = c .before .before .before .before .before .before .before .before .before .same in
     let o = c .before .before .before .before .before .before .same2 in
     rw (
-      answers (s .result) name (ascii "java/lang/String") (s .ensures .0) (s .ensures .1) ∙ c .before .before .before .before .before .before .before .before .if1 .left,
-      answers (o .result) name (ascii "java/lang/Object") (o .ensures .0) (o .ensures .1) ∙ c .before .before .before .before .before .if2 .taken,
+      same-told (s .result) name (ascii "java/lang/String") (s .ensures .0) (s .ensures .1) ∙ c .before .before .before .before .before .before .before .before .if1 .left,
+      same-told (o .result) name (ascii "java/lang/Object") (o .ensures .0) (o .ensures .1) ∙ c .before .before .before .before .before .if2 .taken,
     ) (c .before .before .put2 .ensures)
 
 starts-with-bracket-requires : tie.Need-starts-with-bracket-requires
@@ -83,8 +77,8 @@ returns-3 c =
     let s = c .before .before .before .before .before .before .before .before .before .before .same in
     let o = c .before .before .before .before .before .before .before .same2 in
     rw (
-      answers (s .result) name (ascii "java/lang/String") (s .ensures .0) (s .ensures .1) ∙ c .before .before .before .before .before .before .before .before .before .if1 .left,
-      answers (o .result) name (ascii "java/lang/Object") (o .ensures .0) (o .ensures .1) ∙ c .before .before .before .before .before .before .if2 .left,
+      same-told (s .result) name (ascii "java/lang/String") (s .ensures .0) (s .ensures .1) ∙ c .before .before .before .before .before .before .before .before .before .if1 .left,
+      same-told (o .result) name (ascii "java/lang/Object") (o .ensures .0) (o .ensures .1) ∙ c .before .before .before .before .before .before .if2 .left,
       sym (c .before .before .before .before .before .starts-with-bracket .ensures) ∙ c .before .before .before .before .if3 .taken,
     ) (c .before .before .put3 .ensures)
 
@@ -101,8 +95,8 @@ returns-4 c =
     let s = c .before .before .before .before .before .before .before .before .before .before .same in
     let o = c .before .before .before .before .before .before .before .same2 in
     rw (
-      answers (s .result) name (ascii "java/lang/String") (s .ensures .0) (s .ensures .1) ∙ c .before .before .before .before .before .before .before .before .before .if1 .left,
-      answers (o .result) name (ascii "java/lang/Object") (o .ensures .0) (o .ensures .1) ∙ c .before .before .before .before .before .before .if2 .left,
+      same-told (s .result) name (ascii "java/lang/String") (s .ensures .0) (s .ensures .1) ∙ c .before .before .before .before .before .before .before .before .before .if1 .left,
+      same-told (o .result) name (ascii "java/lang/Object") (o .ensures .0) (o .ensures .1) ∙ c .before .before .before .before .before .before .if2 .left,
       sym (c .before .before .before .before .before .starts-with-bracket .ensures) ∙ c .before .before .before .before .if3 .left,
     ) (c .before .before .put-dotted .ensures)
 
