@@ -1,0 +1,171 @@
+use borrow.Author.Needs.{needs}
+use Rattle.message.proofs.put_element_at.Statement.{statement}
+use Rattle.message.proofs.put_element_at.Tie as tie
+use Rattle.message.proofs.put_element_at.Reads as reads
+use Rattle.message.proofs.put_element_at.Lts as lts
+use Rattle.text.proofs.put_at.Reads as put-at-reads
+
+-- src/lib.rt:15:30
+slice-aggregate-put-at : tie.Need-slice-aggregate-put-at
+slice-aggregate-put-at c = search needs
+
+-- src/lib.rt:15:14
+put-at-requires : tie.Need-put-at-requires
+put-at-requires c κs = search needs
+
+-- src/lib.rt:16:30
+slice-aggregate-put-at-2 : tie.Need-slice-aggregate-put-at-2
+slice-aggregate-put-at-2 c = search needs
+
+-- src/lib.rt:16:14
+put-at-requires-2 : tie.Need-put-at-requires-2
+put-at-requires-2 c κs = search needs
+
+-- src/lib.rt:17:30
+slice-aggregate-put-at-3 : tie.Need-slice-aggregate-put-at-3
+slice-aggregate-put-at-3 c = search needs
+
+-- src/lib.rt:17:14
+put-at-requires-3 : tie.Need-put-at-requires-3
+put-at-requires-3 c κs = search needs
+
+-- src/lib.rt:18:30
+slice-aggregate-put-at-4 : tie.Need-slice-aggregate-put-at-4
+slice-aggregate-put-at-4 c = search needs
+
+-- src/lib.rt:18:14
+put-at-requires-4 : tie.Need-put-at-requires-4
+put-at-requires-4 c κs = search needs
+
+-- src/lib.rt:19:30
+slice-aggregate-put-at-5 : tie.Need-slice-aggregate-put-at-5
+slice-aggregate-put-at-5 c = search needs
+
+-- src/lib.rt:19:14
+put-at-requires-5 : tie.Need-put-at-requires-5
+put-at-requires-5 c κs = search needs
+
+-- src/lib.rt:20:30
+slice-aggregate-put-at-6 : tie.Need-slice-aggregate-put-at-6
+slice-aggregate-put-at-6 c = search needs
+
+-- src/lib.rt:20:14
+put-at-requires-6 : tie.Need-put-at-requires-6
+put-at-requires-6 c κs = search needs
+
+-- src/lib.rt:21:30
+slice-aggregate-put-at-7 : tie.Need-slice-aggregate-put-at-7
+slice-aggregate-put-at-7 c = search needs
+
+-- src/lib.rt:21:14
+put-at-requires-7 : tie.Need-put-at-requires-7
+put-at-requires-7 c κs = search needs
+
+-- src/lib.rt:22:30
+slice-aggregate-put-at-8 : tie.Need-slice-aggregate-put-at-8
+slice-aggregate-put-at-8 c = search needs
+
+-- src/lib.rt:22:14
+put-at-requires-8 : tie.Need-put-at-requires-8
+put-at-requires-8 c κs = search needs
+
+-- src/lib.rt:11:1
+same-length : tie.Need-same-length
+same-length c = search needs
+
+-- src/lib.rt:11:1
+returns : tie.Need-returns
+returns c = ?
+
+-- src/lib.rt:11:1
+same-length-2 : tie.Need-same-length-2
+same-length-2 c = search needs
+
+-- src/lib.rt:11:1
+returns-2 : tie.Need-returns-2
+returns-2 c = ?
+
+-- src/lib.rt:11:1
+same-length-3 : tie.Need-same-length-3
+same-length-3 c = search needs
+
+-- src/lib.rt:11:1
+returns-3 : tie.Need-returns-3
+returns-3 c = ?
+
+-- src/lib.rt:11:1
+same-length-4 : tie.Need-same-length-4
+same-length-4 c = search needs
+
+-- src/lib.rt:11:1
+returns-4 : tie.Need-returns-4
+returns-4 c = ?
+
+-- src/lib.rt:11:1
+same-length-5 : tie.Need-same-length-5
+same-length-5 c = search needs
+
+-- src/lib.rt:11:1
+returns-5 : tie.Need-returns-5
+returns-5 c = ?
+
+-- src/lib.rt:11:1
+same-length-6 : tie.Need-same-length-6
+same-length-6 c = search needs
+
+-- src/lib.rt:11:1
+returns-6 : tie.Need-returns-6
+returns-6 c = ?
+
+-- src/lib.rt:11:1
+same-length-7 : tie.Need-same-length-7
+same-length-7 c = search needs
+
+-- src/lib.rt:11:1
+returns-7 : tie.Need-returns-7
+returns-7 c = ?
+
+-- src/lib.rt:11:1
+same-length-8 : tie.Need-same-length-8
+same-length-8 c = search needs
+
+-- src/lib.rt:11:1
+returns-8 : tie.Need-returns-8
+returns-8 c = ?
+
+pub put-element-at-spec : {M : Type 1} → statement M
+put-element-at-spec =
+    tie.close
+    (tie.spec
+    slice-aggregate-put-at
+    put-at-requires
+    slice-aggregate-put-at-2
+    put-at-requires-2
+    slice-aggregate-put-at-3
+    put-at-requires-3
+    slice-aggregate-put-at-4
+    put-at-requires-4
+    slice-aggregate-put-at-5
+    put-at-requires-5
+    slice-aggregate-put-at-6
+    put-at-requires-6
+    slice-aggregate-put-at-7
+    put-at-requires-7
+    slice-aggregate-put-at-8
+    put-at-requires-8
+    same-length
+    returns
+    same-length-2
+    returns-2
+    same-length-3
+    returns-3
+    same-length-4
+    returns-4
+    same-length-5
+    returns-5
+    same-length-6
+    returns-6
+    same-length-7
+    returns-7
+    same-length-8
+    returns-8)

@@ -1,0 +1,91 @@
+// The message's text (document 01, "Action and cause"), written from a place of the output on. Each function answers the place
+// after its text, also where the output ends before it.
+use block::Slot;
+use fault::Action;
+use text::put_at;
+ghost use mathlib.Core.Path.{_≡_};
+ghost use mathlib.Core.List.{_++_};
+ghost use Rattle.text.specs.Writing.{Written};
+ghost use Rattle.message.specs.Message.{elementText, quoted, invokeText, arrayText, actionText, causeText};
+
+fn put_element_at(out: &mut [u8], at: usize, element: usize) -> usize
+    ensures { λ r. ⌜ Written at (elementText element) (now (out .entry)) r (now (out .exit)) ⌝ }
+{
+    match element {
+        0 => put_at(out, at, b"int"),
+        1 => put_at(out, at, b"long"),
+        2 => put_at(out, at, b"float"),
+        3 => put_at(out, at, b"double"),
+        4 => put_at(out, at, b"object"),
+        5 => put_at(out, at, b"byte"),
+        6 => put_at(out, at, b"char"),
+        _ => put_at(out, at, b"short"),
+    }
+}
+
+fn put_quoted_at(out: &mut [u8], at: usize, words: &[u8], name: &[u8]) -> usize
+    ensures { λ r. ⌜ Written at (quoted (now (words .entry)) (now (name .entry))) (now (out .entry)) r (now (out .exit)) ⌝ }
+{
+    let opened = put_at(out, at, words);
+    let start = put_at(out, opened, b"\"");
+    let end = put_at(out, start, name);
+    put_at(out, end, b"\"")
+}
+
+fn put_array_at(out: &mut [u8], at: usize, words: &[u8], element: usize) -> usize
+    ensures { λ r. ⌜ Written at (arrayText (now (words .entry)) element) (now (out .entry)) r (now (out .exit)) ⌝ }
+{
+    let start = put_at(out, at, words);
+    let end = put_element_at(out, start, element);
+    put_at(out, end, b" array")
+}
+
+// The method of the part that holds its texts: class, name and parameters.
+fn put_invoke_at(out: &mut [u8], at: usize, texts: &[u8]) -> usize
+    ensures { λ r. ⌜ Written at (invokeText (now (texts .entry))) (now (out .entry)) r (now (out .exit)) ⌝ }
+{
+    let class_at = put_at(out, at, b"Cannot invoke \"");
+    let dot_at = names::put_class_at(out, class_at, casefile::class_of(texts));
+    let name_at = put_at(out, dot_at, b".");
+    let open_at = put_at(out, name_at, casefile::name_of(texts));
+    let params_at = put_at(out, open_at, b"(");
+    let close_at = names::put_params_at(out, params_at, casefile::descriptor_of(texts));
+    put_at(out, close_at, b")\"")
+}
+
+// Writes the action that failed.
+pub fn put_action_at(out: &mut [u8], at: usize, members: &[u8], count: usize, action: Action) -> usize
+    ensures { λ r. ⌜ Written at (actionText (now (members .entry)) count action) (now (out .entry)) r (now (out .exit)) ⌝ }
+{
+    match action {
+        Action::ReadField { index } => {
+            let texts = casefile::find_member(members, count, index, 0);
+            put_quoted_at(out, at, b"Cannot read field ", casefile::name_of(texts))
+        }
+        Action::AssignField { index } => {
+            let texts = casefile::find_member(members, count, index, 0);
+            put_quoted_at(out, at, b"Cannot assign field ", casefile::name_of(texts))
+        }
+        Action::Invoke { index } => put_invoke_at(out, at, casefile::find_member(members, count, index, 1)),
+        Action::LoadArray { element } => put_array_at(out, at, b"Cannot load from ", element),
+        Action::StoreArray { element } => put_array_at(out, at, b"Cannot store to ", element),
+        Action::ReadLength => put_at(out, at, b"Cannot read the array length"),
+        Action::ThrowException => put_at(out, at, b"Cannot throw exception"),
+        Action::EnterBlock => put_at(out, at, b"Cannot enter synchronized block"),
+        Action::ExitBlock => put_at(out, at, b"Cannot exit synchronized block"),
+    }
+}
+
+// Writes the cause, where a load is known.
+pub fn put_cause_at(out: &mut [u8], at: usize, cause: Slot, records: &[u8], count: usize, signature: &[u8], instance: bool) -> usize
+    ensures { λ r. ⌜ Written at (causeText cause (now (records .entry)) count (now (signature .entry)) instance) (now (out .entry)) r (now (out .exit)) ⌝ }
+{
+    match cause {
+        Slot::Other => at,
+        Slot::Loaded { load, local } => {
+            let start = put_at(out, at, b" because \"");
+            let end = locals::describe_local(out, start, records, count, signature, instance, local, load);
+            put_at(out, end, b"\" is null")
+        }
+    }
+}
