@@ -20,7 +20,7 @@ same-refl : (xs : List ℕ) → T (sameList xs xs)
 same-refl [] = tt
 same-refl (x ∷ xs) = both-hold (eqb x x) (sameList xs xs) (eqb-refl x) (same-refl xs)
 
-are-same : (xs ys : List ℕ) → T (sameList xs ys) → xs ≡ ys
+pub are-same : (xs ys : List ℕ) → T (sameList xs ys) → xs ≡ ys
 are-same [] [] t = refl
 are-same [] (y ∷ ys) t = absurd t
 are-same (x ∷ xs) [] t = absurd t

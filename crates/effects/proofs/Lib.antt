@@ -1,0 +1,5 @@
+pub mod Depths
+pub mod Forms
+pub mod Results
+pub mod Rows
+pub mod Weights
