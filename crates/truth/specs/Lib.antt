@@ -1,3 +1,4 @@
 pub mod Cause
 pub mod Condition
+pub mod Relation
 pub mod Translation
