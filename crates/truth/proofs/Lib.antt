@@ -4,3 +4,5 @@ pub mod Held
 pub mod Machine
 pub mod Reading
 pub mod Step
+pub mod Turn
+pub mod Walked
