@@ -1,8 +1,12 @@
 pub mod Above
 pub mod Carried
+pub mod Cell
+pub mod Condition
 pub mod Held
 pub mod Machine
 pub mod Reading
+pub mod Room
+pub mod Slot
 pub mod Step
 pub mod Turn
 pub mod Walked

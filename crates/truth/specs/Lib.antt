@@ -1,4 +1,5 @@
 pub mod Cause
+pub mod Cell
 pub mod Condition
 pub mod Relation
 pub mod Translation
