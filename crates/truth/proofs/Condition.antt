@@ -42,6 +42,9 @@ module _ (r : Report) (pool : Pool) (p : Premises r pool) where
   unfolding blockWalk
   slots-are = ap (take (r .height)) (p .left) ∙ fits .shows
 
+  pub slots-tall : length (take (r .height) (r .stack)) ≡ r .height
+  slots-tall = ap length slots-are ∙ sym (fits .tall)
+
   -- ---- a machine
 
   module _ (Val : Type 0) (opaque : ℕ → ℕ → Val) (entering : List Val) (locals : ℕ → Val) where

@@ -1,7 +1,9 @@
 pub mod Above
 pub mod Carried
+pub mod Cause
 pub mod Cell
 pub mod Condition
+pub mod Force
 pub mod Held
 pub mod Machine
 pub mod Reading
