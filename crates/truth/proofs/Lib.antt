@@ -3,6 +3,7 @@ pub mod Carried
 pub mod Cause
 pub mod Cell
 pub mod Condition
+pub mod Example
 pub mod Force
 pub mod Held
 pub mod Machine
