@@ -1,7 +1,7 @@
--- Document 01's depths agree with JVMS, opcode by opcode: the slots above the operand that JVMS names objectref or arrayref. One
--- test over all opcodes.
+-- Document 01's depths agree with JVMS, opcode by opcode: the slots above the operand that JVMS names objectref or arrayref.
+-- One test over all opcodes.
 -- Assumes nothing.
-use Prim.Native.Nat.{ℕ, _<_}
+use Prim.Native.Nat.{ℕ}
 use mathlib.Core.Path.{_≡_, refl}
 use mathlib.Core.Bool.{Bool, false}
 use mathlib.Core.List.{List, [], _∷_}
@@ -52,4 +52,5 @@ depthTest op = whereAsked (isDereference (ruleOf op)) (depthFits (ruleOf op) op)
 pub depths-agree : DepthsAgree
 unfolding ruleOf entryOf
 depths-agree op below some =
-    depth-agrees (ruleOf op) op (asked (isDereference (ruleOf op)) (depthFits (ruleOf op) op) some (every-at depthTest 256 tt op below))
+    depth-agrees (ruleOf op) op
+    (asked (isDereference (ruleOf op)) (depthFits (ruleOf op) op) some (every-at depthTest 256 tt op below))

@@ -40,15 +40,17 @@ module _ {Val : Type 0} where
   own-results c before taken own k (o ∷ os) t =
       by-test (bears (nameOf o) before) (own-results c before taken own (k + slotsOf c o) os) t
     where
+      rest : List Val
+      rest = results c before taken own (k + slotsOf c o) os
+
       by-test :
-          (b : Bool) →
-          (T (noneBorne before os) → results c before taken own (k + slotsOf c o) os ≡ run (slotsIn c os) (k + slotsOf c o) own) →
+          (b : Bool) → (T (noneBorne before os) → rest ≡ run (slotsIn c os) (k + slotsOf c o) own) →
           T (pick b false (noneBorne before os)) →
-          pick b (slotsNamed c (nameOf o) before taken) (run (slotsOf c o) k own) ++ results c before taken own (k + slotsOf c o) os
+          pick b (slotsNamed c (nameOf o) before taken) (run (slotsOf c o) k own) ++ rest
           ≡ run (slotsOf c o + slotsIn c os) k own
-      by-test true rest u = absurd u
-      by-test false rest u =
-          ap (λ (l : List Val). run (slotsOf c o) k own ++ l) (rest u) ∙ sym (run-more (slotsOf c o) (slotsIn c os) k own)
+      by-test true more u = absurd u
+      by-test false more u =
+          ap (λ (l : List Val). run (slotsOf c o) k own ++ l) (more u) ∙ sym (run-more (slotsOf c o) (slotsIn c os) k own)
 
 -- ---- each result has an operand's name
 
@@ -97,7 +99,8 @@ module _ {A B : Type 0} (f : A → B) (c d : Cited) where
   drop-map (suc n) [] = refl
   drop-map (suc n) (x ∷ xs) = drop-map n xs
 
-  pick-map : (b : Bool) (xs ys : List B) (xs′ ys′ : List A) → xs ≡ map f xs′ → ys ≡ map f ys′ → pick b xs ys ≡ map f (pick b xs′ ys′)
+  pick-map :
+      (b : Bool) (xs ys : List B) (xs′ ys′ : List A) → xs ≡ map f xs′ → ys ≡ map f ys′ → pick b xs ys ≡ map f (pick b xs′ ys′)
   pick-map true xs ys xs′ ys′ e g = e
   pick-map false xs ys xs′ ys′ e g = g
 
@@ -108,9 +111,10 @@ module _ {A B : Type 0} (f : A → B) (c d : Cited) where
   named-map name (o ∷ os) taken t =
       let n : ℕ = slotsOf c o in
       let same : slotsOf d o ≡ n = settled-slots d c o (both-first (settled o) (allSettled os) t) in
+      let rest = named-map name os (drop n taken) (both-second (settled o) (allSettled os) t) in
       rw same
       (pick-map (sameName name (nameOf o)) _ _ (take n taken) (slotsNamed c name os (drop n taken)) (take-map n taken)
-      (ap (slotsNamed d name os) (drop-map n taken) ∙ named-map name os (drop n taken) (both-second (settled o) (allSettled os) t)))
+      (ap (slotsNamed d name os) (drop-map n taken) ∙ rest))
 
   results-map :
       (before : List Operand) (taken : List A) (own : ℕ → A) (k : ℕ) (own′ : ℕ → B) (k′ : ℕ) (after : List Operand) →
@@ -131,7 +135,8 @@ module _ {A B : Type 0} (f : A → B) (c d : Cited) where
           pick b (slotsNamed d (nameOf o) before (map f taken)) (run (slotsOf d o) k′ own′) ++ rest′
           ≡ map f (pick b (slotsNamed c (nameOf o) before taken) (run (slotsOf c o) k own) ++ rest)
       by-test true same u =
-          ap₂ _++_ (named-map (nameOf o) before taken s) (same u) ∙ sym (map-append f (slotsNamed c (nameOf o) before taken) rest)
+          ap₂ _++_ (named-map (nameOf o) before taken s) (same u)
+          ∙ sym (map-append f (slotsNamed c (nameOf o) before taken) rest)
       by-test false same u = absurd u
 
 -- so many slots, each the number that it has from the top

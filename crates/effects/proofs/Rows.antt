@@ -1,5 +1,5 @@
--- Document 01's rows agree with JVMS, opcode by opcode: one test that antt computes over all of them, and what it says. The same
--- test serves any other table of rows.
+-- Document 01's rows agree with JVMS, opcode by opcode: one test that antt computes over all of them, and what it says.
+-- The same test serves any other table of rows.
 -- Assumes nothing.
 use Prim.Native.Nat.{ℕ, _<_}
 use mathlib.Core.Path.{_≡_, refl, sym, ap, subst}
@@ -127,7 +127,8 @@ fixed-extent wide t code pc = absurd t
 fixed-extent reserved t code pc = absurd t
 
 opcode-extent :
-    (op : ℕ) → T (isFixed (formatOf op)) → (code : List ℕ) (pc : ℕ) → byteAt code pc ≡ op → extentAt code pc ≡ takes (fixedLength op)
+    (op : ℕ) → T (isFixed (formatOf op)) →
+    (code : List ℕ) (pc : ℕ) → byteAt code pc ≡ op → extentAt code pc ≡ takes (fixedLength op)
 unfolding extentAt fixedLength
 opcode-extent op t code pc e = rw e (fixed-extent (formatOf op) t code pc)
 

@@ -1,5 +1,5 @@
--- What operands weigh is a fixed number and so many times the slots of the cited member. So two weights that are equal for four
--- members are equal for all.
+-- What operands weigh is a fixed number and so many times the slots of the cited member. So two weights that are equal for
+-- four members are equal for all.
 -- Assumes nothing.
 use Prim.Native.Nat.{ℕ, _+_, _*_}
 use native.Mathlib.Nat.{add-mul}

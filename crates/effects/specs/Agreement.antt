@@ -1,5 +1,5 @@
--- Document 01's rows and depths against the operands and results of JVMS, as statements. proofs/ of this crate has a proof of
--- each. They are said of any table of rows, at every opcode and for every member that an instruction cites.
+-- Document 01's rows and depths against the operands and results of JVMS, as statements. proofs/ of this crate has a proof
+-- of each. They are said of any table of rows, at every opcode and for every member that an instruction cites.
 -- Assumes nothing.
 use Prim.Native.Nat.{ℕ, _+_, _-_, _<_}
 use mathlib.Core.Path.{_≡_}
@@ -61,8 +61,8 @@ givenBy keeps cited = 0
 givenBy (gets taken) cited = cited .field
 givenBy (calls taken) cited = cited .gives
 
--- What a row says of the slots that are pushed, where `taken` were taken: each is one of those, by its number from the top; or
--- each is the instruction's own.
+-- What a row says of the slots that are pushed, where `taken` were taken: each is one of those, by its number from the top;
+-- or each is the instruction's own.
 abbrev pub Carried : {Val : Type 0} → List ℕ → List Val → List Val → Type 0
 Carried {Val} places taken pushed = (absent : Val) → pushed ≡ map (λ place. getD taken (length taken - place) absent) places
 

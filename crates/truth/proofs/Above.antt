@@ -19,6 +19,9 @@ use Rattle.truth.proofs.Machine.{below-over}
 use Rattle.truth.proofs.Reading.{pushFor}
 use Rattle.truth.proofs.Step.{pushes, Applied}
 
+no-local : {P : Type 0} {l : Local} → [] ≡ l ∷ [] → P
+no-local e = let z : _≡_ {A = ℕ} 0 1 = cc in absurd (omega arith)
+
 module _ {A Val : Type 0} (s : Setting A Val) where
   pub record Above (list : List A) (stack : List Val) : Type 0 where
     pub above : List Val
@@ -59,15 +62,15 @@ module _ {A Val : Type 0} (s : Setting A Val) where
     -- the first of what a load of a local makes is what the local holds
     loaded-first :
         (entry : Entry) (l : Local) → localOf entry ≡ l ∷ [] → ownBy s st entry 0 ≡ st .locals (localAt (s .code) (st .pc) l)
-    loaded-first unlisted l e = let z : _≡_ {A = ℕ} 0 1 = cc in absurd (omega arith)
-    loaded-first (does f) l e = let z : _≡_ {A = ℕ} 0 1 = cc in absurd (omega arith)
-    loaded-first (eitherOf f g) l e = let z : _≡_ {A = ℕ} 0 1 = cc in absurd (omega arith)
+    loaded-first unlisted l e = no-local e
+    loaded-first (does f) l e = no-local e
+    loaded-first (eitherOf f g) l e = no-local e
     loaded-first (loads m f) l e =
         let same : m ≡ l = cc in
         rw same (ap (λ (n : ℕ). st .locals n) (add-zero (localAt (s .code) (st .pc) l)))
-    loaded-first (stores m f) l e = let z : _≡_ {A = ℕ} 0 1 = cc in absurd (omega arith)
-    loaded-first (increments f) l e = let z : _≡_ {A = ℕ} 0 1 = cc in absurd (omega arith)
-    loaded-first (throws os) l e = let z : _≡_ {A = ℕ} 0 1 = cc in absurd (omega arith)
+    loaded-first (stores m f) l e = no-local e
+    loaded-first (increments f) l e = no-local e
+    loaded-first (throws os) l e = no-local e
 
     held-blanks : (n : ℕ) (put : List Val) → put ≡ run n 0 (own s st) → Held (s .Says) (replicate n blank) put
     held-blanks n put e = rw e (held-run n 0 blank (own s st) (speaks .made))
@@ -89,9 +92,10 @@ module _ {A Val : Type 0} (s : Setting A Val) where
     held-pushed list (opaque taken n) put a details enough e = held-blanks n put e
     held-pushed list aload put a details enough e =
         held-mark (byteAt (s .code) (st .pc + 1)) indexed put (given .bytes (st .pc + 1)) refl details e
-    held-pushed list (aloadOf local) put a details enough e = held-mark local (numbered local) put (details .1) refl (details .0) e
+    held-pushed list (aloadOf local) put a details enough e =
+        held-mark local (numbered local) put (details .1) refl (details .0) e
     held-pushed list (carries taken places) put a details enough e =
-        held-carried (s .marks .blank 0) (s .opaque 0 0) (s .entering) (a .above) list (a .held) taken enough places details put
+        held-carried blank (s .opaque 0 0) (s .entering) (a .above) list (a .held) taken enough places details put
         (subst (λ (l : List Val). Carried places (topmost taken l) put) (a .untouched) e)
     held-pushed list keeps put a details enough e = rw e none
     held-pushed list (gets taken) put a details enough e = held-blanks (cited .field) put e

@@ -31,7 +31,8 @@ nth-taken t place entering above absent small enough =
     let top : topmost t (entering ++ above) ≡ topmost t above = topmost-over t entering above enough in
     let there : length above - t + (length (topmost t above) - place) ≡ length above - place =
     omega (arith, topmost-length t above enough) in
-    rw top (getD-drop (length above - t) above (length (topmost t above) - place) absent ∙ ap (λ (k : ℕ). getD above k absent) there)
+    rw top
+    (getD-drop (length above - t) above (length (topmost t above) - place) absent ∙ ap (λ (k : ℕ). getD above k absent) there)
 
 module _
     {A Val : Type 0} {Says : A → Val → Type 0} (blank : A) (absent : Val) (entering above : List Val) (list : List A)

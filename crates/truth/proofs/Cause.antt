@@ -16,7 +16,8 @@ cause-true r pool p depth b n e enough small marked Val opaque entering locals =
     let t = c .translated Val opaque entering locals in
     let k : ℕ = r .height - 1 - depth in
     let absent : Val = locals 0 in
-    let here : getD (take (r .height) (r .stack)) k 0 ≡ cellOf b n = getD-take (r .height) (r .stack) k 0 (omega arith) ∙ marked in (
+    let here : getD (take (r .height) (r .stack)) k 0 ≡ cellOf b n =
+    getD-take (r .height) (r .stack) k 0 (omega arith) ∙ marked in (
       getD (since pool (r .code) opaque (r .leader) entering locals (r .count) .stack) (length entering + k) absent,
       c .verySlot Val opaque entering locals absent depth e enough,
       t .holds k b n absent (omega (arith, slots-tall r pool p)) small here,

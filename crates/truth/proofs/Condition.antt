@@ -1,9 +1,9 @@
 -- Condition 3. Rests on the walk's translation, the very slot, and the declared leader of `leaders`.
 -- Assumes nothing.
-use Prim.Native.Nat.{ℕ, _+_, _-_, _≤_, _<_}
+use Prim.Native.Nat.{ℕ, _+_, _-_, _<_}
 use native.Mathlib.Omega.{arith}
-use mathlib.Core.Path.{_≡_, refl, _∙_, sym, ap, subst}
-use mathlib.Core.List.{List, [], _∷_, _++_}
+use mathlib.Core.Path.{_≡_, _∙_, sym, ap, subst}
+use mathlib.Core.List.{List, [], _∷_}
 use lib.ListN.{length, getD, take, length-append}
 use lib.Seq.{take-append-seam, getD-append-add}
 use Rattle.jvms.specs.Machine.{Pool, State, target}
@@ -15,13 +15,13 @@ use Rattle.effects.specs.Rows.{rowOf}
 use Rattle.effects.proofs.Rows.{rows-agree}
 use Rattle.block.specs.Room.{completed, blockWalk}
 use Rattle.block.specs.Walk.{cells, cellOf, walk}
-use Rattle.truth.specs.Condition.{Described, Report, Premises, Concluded, Condition3}
-use Rattle.truth.specs.Relation.{Held, Setting, machine, Speaks, Given, Translated}
+use Rattle.truth.specs.Condition.{Described, Report, Premises, Condition3}
+use Rattle.truth.specs.Relation.{Setting, Speaks, Given, Translated}
 use Rattle.truth.specs.Translation.{since, Loaded, Translates}
 use Rattle.truth.proofs.Cell.{cell-injective, no-load-is-zero}
 use Rattle.truth.proofs.Held.{same-length, held-at}
 use Rattle.truth.proofs.Room.{Fitted, fitted}
-use Rattle.truth.proofs.Slot.{under, very-slot}
+use Rattle.truth.proofs.Slot.{very-slot}
 use Rattle.truth.proofs.Walked.{walk-translates}
 
 -- ---- a report
@@ -83,11 +83,15 @@ module _ (r : Report) (pool : Pool) (p : Premises r pool) where
     translated : Translated setting (fits .slots) (r .count)
     translated = walk-translates ℕ Val setting given (fits .slots) (r .count) (fits .succeeds) speaks
 
-    tall : length (translated .above) ≡ r .height
-    tall = sym (same-length (translated .held)) ∙ sym (fits .tall)
+    one-each : length (states (r .count) .stack) ≡ length entering + length (fits .slots)
+    one-each =
+        ap length (translated .untouched) ∙ length-append entering (translated .above)
+        ∙ ap (λ (n : ℕ). length entering + n) (sym (same-length (translated .held)))
 
     -- the value above the entering stack that stands for a slot
-    value-of : (k : ℕ) (absent : Val) → getD (translated .above) k absent ≡ getD (states (r .count) .stack) (length entering + k) absent
+    value-of :
+        (k : ℕ) (absent : Val) →
+        getD (translated .above) k absent ≡ getD (states (r .count) .stack) (length entering + k) absent
     value-of k absent =
         sym (ap (λ (l : List Val). getD l (length entering + k) absent) (translated .untouched)
         ∙ getD-append-add entering (translated .above) k absent)
@@ -98,8 +102,7 @@ module _ (r : Report) (pool : Pool) (p : Premises r pool) where
           reached = translated .reached;
           notBefore = translated .notBefore;
           untouched = ap (take (length entering)) (translated .untouched) ∙ take-append-seam entering (translated .above);
-          oneEach = ap length (translated .untouched) ∙ length-append entering (translated .above)
-              ∙ ap (λ (n : ℕ). length entering + n) (sym (same-length (translated .held)));
+          oneEach = one-each;
           holds = λ k b n absent inside small e.
               subst (λ (v : Val). Loaded states (r .count) b n v) (value-of k absent)
               (held-at (translated .held) k inside 0 absent b n small e);
@@ -112,8 +115,7 @@ module _ (r : Report) (pool : Pool) (p : Premises r pool) where
         ≡ getD (states (r .count) .stack) (length entering + (r .height - 1 - depth)) absent ∷ []
     very absent depth e enough =
         let st : State Val = states (r .count) in
-        let size : length (st .stack) ≡ length entering + r .height =
-        ap length (translated .untouched) ∙ length-append entering (translated .above) ∙ ap (λ (n : ℕ). length entering + n) tall in
+        let size : length (st .stack) ≡ length entering + r .height = omega (arith, one-each, fits .tall) in
         let there : length (st .stack) - 1 - depth ≡ length entering + (r .height - 1 - depth) = omega (arith, size) in
         let told : Described lookup pool (r .code) (st .pc) =
         rw (translated .reached) (p .described (r .fault) (translated .inBlock) (omega arith)) in
@@ -125,6 +127,7 @@ condition-3 r pool p =
     record {
       translated = λ Val opaque entering locals. rw (slots-are r pool p) (translates r pool p Val opaque entering locals);
       verySlot = very r pool p;
-      nothingLands = nothing-lands-between document-rule [] (r .code) (p .bytes) (r .fault) (r .leader) (p .scan) (p .inside)
-          (rw document-measures (p .measured));
+      nothingLands = λ pc x reached lands above below.
+          nothing-lands-between document-rule [] (r .code) (p .bytes) (r .fault) (r .leader) (p .scan) (p .inside)
+          (rw document-measures (p .measured)) pc x reached lands (omega arith) below;
     }

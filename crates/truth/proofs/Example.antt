@@ -1,13 +1,12 @@
 -- The worked block meets the premises of condition 3, and its cause is named rightly.
 -- Assumes nothing.
-use Prim.Native.Nat.{ℕ, zero, suc, _+_, _≤_, _<_}
+use Prim.Native.Nat.{ℕ, zero, suc, _+_, _≤_}
 use native.Mathlib.Omega.{arith}
 use mathlib.Core.Path.{_≡_, refl, _∙_, sym, ap, subst}
-use mathlib.Core.Bool.{Bool, true, false}
+use mathlib.Core.Bool.{Bool, true}
 use mathlib.Core.List.{List, [], _∷_}
 use lib.Dec.{T, eqb, ltb, eqb→eq, ltb→lt, lit<, lit≤}
-use lib.ListN.{getD}
-use Rattle.basics.specs.Bytes.{byteAt, u16At, u32At, AreBytes}
+use Rattle.basics.specs.Bytes.{byteAt, u16At, AreBytes}
 use Rattle.basics.specs.Choice.{both, between}
 use Rattle.basics.proofs.Every.{both-first, both-second, every, every-at}
 use Rattle.jvms.specs.Descriptor.{long, base, render, renderReturn, renderAll, renderMethod, WellFormed, WellFormedMethod}
@@ -31,7 +30,7 @@ use Rattle.effects.specs.Rows.{rowOf}
 use Rattle.effects.proofs.Rows.{whereAsked, asked}
 use Rattle.block.specs.Room.{completedFrom, completed, fits, blockWalk, answerOf, cellsOf}
 use Rattle.block.specs.Walk.{done, step, walkFrom, walk}
-use Rattle.truth.specs.Condition.{Described, Premises}
+use Rattle.truth.specs.Condition.{Described}
 use Rattle.truth.specs.Example.{report, pool, PremisesMet, NamedRightly}
 use Rattle.truth.proofs.Cause.{cause-true}
 
@@ -70,9 +69,12 @@ only-at :
     (pc : ℕ) → pc ≤ 11 → T (between low high (byteAt (report .code) pc)) → pc ≡ place
 only-at low high place t pc below here =
     let test : ℕ → Bool = λ k. whereAsked (between low high (byteAt (report .code) k)) (eqb k place) in
-    eqb→eq pc place (asked (between low high (byteAt (report .code) pc)) (eqb pc place) here (every-at test 12 t pc (omega arith)))
+    eqb→eq pc place
+    (asked (between low high (byteAt (report .code) pc)) (eqb pc place) here (every-at test 12 t pc (omega arith)))
 
-field-well : (d : List ℕ) → lookupIn (report .members) 2 0 (u16At (report .code) 3) ≡ known d → (d ≡ render (base long)) × WellFormed (base long)
+field-well :
+    (d : List ℕ) → lookupIn (report .members) 2 0 (u16At (report .code) 3) ≡ known d →
+    (d ≡ render (base long)) × WellFormed (base long)
 unfolding render u16At
 field-well d e =
     let same : known d ≡ known (74 ∷ []) = sym e ∙ field-known in

@@ -21,7 +21,9 @@ abbrev numbers : Pool → List ℕ → ℕ → State ℕ
 numbers pool code = since pool code (λ index k. 1) 0 [] (λ n. n)
 
 -- so where one instruction leaves 1, that is not what local 0 held
-refuted : (code : List ℕ) (pool : Pool) → getD (numbers pool code 1 .stack) 0 0 ≡ 1 → TrueTranslation code pool 0 1 (cellOf 0 0 ∷ []) 1 → ⊥
+refuted :
+    (code : List ℕ) (pool : Pool) → getD (numbers pool code 1 .stack) 0 0 ≡ 1 →
+    TrueTranslation code pool 0 1 (cellOf 0 0 ∷ []) 1 → ⊥
 unfolding ran
 refuted code pool leaves t =
     let loaded = t ℕ (λ index k. 1) [] (λ n. n) .holds 0 0 0 0 (lit< tt) (lit< tt) refl in

@@ -1,10 +1,9 @@
 -- One value for each slot: what keeps that relation of two lists.
 -- Assumes nothing.
-use Prim.Native.Nat.{ℕ, zero, suc, _-_, _≤_, _<_}
+use Prim.Native.Nat.{ℕ, zero, suc, _<_}
 use native.Mathlib.Nat.{not-suc-le-zero, le-of-suc-le-suc}
-use native.Mathlib.Omega.{arith}
 use mathlib.Core.Path.{_≡_, refl, ap}
-use mathlib.Core.List.{List, [], _∷_, _++_}
+use mathlib.Core.List.{List, _++_}
 use lib.ListN.{length, getD, take, replicate}
 use Rattle.jvms.specs.Machine.{run}
 use Rattle.truth.specs.Relation.{Held, none, one}
@@ -14,7 +13,8 @@ module _ {A Val : Type 0} {Says : A → Val → Type 0} where
   same-length none = refl
   same-length (one r h) = ap suc (same-length h)
 
-  pub held-take : (k : ℕ) {slots : List A} {values : List Val} → Held Says slots values → Held Says (take k slots) (take k values)
+  pub held-take :
+      (k : ℕ) {slots : List A} {values : List Val} → Held Says slots values → Held Says (take k slots) (take k values)
   held-take zero none = none
   held-take zero (one r h) = none
   held-take (suc k) none = none

@@ -5,7 +5,7 @@ use native.Mathlib.Omega.{arith}
 use mathlib.Core.Path.{_≡_, refl, _∙_, ap}
 use mathlib.Core.List.{List, [], _∷_, _++_, append-nil, List·Memᴰ, List·Memᴰ·head}
 use lib.Dec.{T}
-use lib.ListN.{length, take, drop, length-append, length-drop, take-append-drop}
+use lib.ListN.{length, take, length-append, length-drop, take-append-drop}
 use lib.Seq.{take-append-add, drop-append-add, take-all}
 use Rattle.jvms.specs.Extent.{extentAt}
 use Rattle.jvms.specs.Machine.{Pool, citedAt, sizeOf, State, below, topmost, replaced, perform, next, ran}
@@ -17,15 +17,18 @@ use Rattle.truth.specs.Relation.{Setting, ownBy}
 
 module _ {Val : Type 0} where
   -- what is taken from the top of a list that lies on another
-  pub below-over : (n : ℕ) (entering above : List Val) → n ≤ length above → below n (entering ++ above) ≡ entering ++ below n above
-  below-over n entering above h =
-      let k : length (entering ++ above) - n ≡ length entering + (length above - n) = omega (arith, length-append entering above) in
-      rw k (take-append-add entering above (length above - n))
+  depth-over :
+      (n : ℕ) (entering above : List Val) → n ≤ length above →
+      length (entering ++ above) - n ≡ length entering + (length above - n)
+  depth-over n entering above h = omega (arith, length-append entering above)
 
-  pub topmost-over : (n : ℕ) (entering above : List Val) → n ≤ length above → topmost n (entering ++ above) ≡ topmost n above
-  topmost-over n entering above h =
-      let k : length (entering ++ above) - n ≡ length entering + (length above - n) = omega (arith, length-append entering above) in
-      rw k (drop-append-add entering above (length above - n))
+  pub below-over :
+      (n : ℕ) (entering above : List Val) → n ≤ length above → below n (entering ++ above) ≡ entering ++ below n above
+  below-over n entering above h = rw (depth-over n entering above h) (take-append-add entering above (length above - n))
+
+  pub topmost-over :
+      (n : ℕ) (entering above : List Val) → n ≤ length above → topmost n (entering ++ above) ≡ topmost n above
+  topmost-over n entering above h = rw (depth-over n entering above h) (drop-append-add entering above (length above - n))
 
   pub topmost-length : (n : ℕ) (stack : List Val) → n ≤ length stack → length (topmost n stack) ≡ n
   topmost-length n stack h = omega (arith, length-drop (length stack - n) stack)

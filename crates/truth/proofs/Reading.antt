@@ -1,6 +1,6 @@
--- An effect of the walk with its operands read: where the cited descriptor is well formed, its slots are those of the pool's tree.
+-- An effect of the walk with its operands read: the slots of a cited descriptor that is well formed are those of its tree.
 -- Assumes nothing.
-use Prim.Native.Nat.{ℕ, _+_, _<_}
+use Prim.Native.Nat.{ℕ, _+_}
 use mathlib.Core.Path.{_≡_, refl, _∙_, ap}
 use mathlib.Core.Bool.{Bool, true, false}
 use mathlib.Core.List.{List}
@@ -8,7 +8,6 @@ use lib.Dec.{T, ltb}
 use lib.ListN.{length}
 use Rattle.basics.specs.Bytes.{byteAt, u16At}
 use Rattle.basics.specs.Choice.{pick, between}
-use Rattle.jvms.specs.Descriptor.{slotsAll}
 use Rattle.jvms.specs.Machine.{Pool, citedAt}
 use Rattle.jvms.specs.Stack.{Cited}
 use Rattle.descriptor.specs.Readers.{parameters, returnSlots, fieldSlots}
@@ -19,7 +18,7 @@ use Rattle.descriptors.proofs.Agree.{lenient-agrees}
 use Rattle.effects.specs.Agreement.{takenBy, Details}
 use Rattle.effects.specs.Lookup.{Known, missing, known, Lookup}
 use Rattle.effects.specs.Rows.{Row, unmodelled, opaque, aload, aloadOf, carries, keeps, gets, calls}
-use Rattle.block.specs.Walk.{Reason, notModelled, cut, Marks, Push, blanks, load, carried, unread, Effect, fails, does, getting, called, calling, effectBy, made, applied}
+use Rattle.block.specs.Walk.{notModelled, cut, Marks, Push, blanks, load, carried, unread, Effect, fails, does, getting, calling, effectBy, made, applied}
 use Rattle.truth.specs.Condition.{Described}
 use Rattle.truth.proofs.Step.{refused-not-made}
 
@@ -90,7 +89,8 @@ module _ (lookup : Lookup) (pool : Pool) (code : List ℕ) (pc : ℕ) (told : De
     calling-makes taken t e = by-known (lookup 1 index) refl e
       where
         by-known :
-            (k : Known) → lookup 1 index ≡ k → Makes (calling taken k) → Makes (does (taken + cited .args) (blanks (cited .gives)))
+            (k : Known) → lookup 1 index ≡ k → Makes (calling taken k) →
+            Makes (does (taken + cited .args) (blanks (cited .gives)))
         by-known missing h q = refused-not-made q
         by-known (known d) h q = rw (parameter-slots t d h, return-slots t d h) at q
 
@@ -104,5 +104,7 @@ module _ (lookup : Lookup) (pool : Pool) (code : List ℕ) (pc : ℕ) (told : De
     effect-read (aloadOf local) details e = e
     effect-read (carries taken places) details e = e
     effect-read keeps details e = e
-    effect-read (gets taken) details e = getting-makes taken details (uncut-makes (pc + 2) (getting taken (lookup 0 index)) e)
-    effect-read (calls taken) details e = calling-makes taken details (uncut-makes (pc + 2) (calling taken (lookup 1 index)) e)
+    effect-read (gets taken) details e =
+        getting-makes taken details (uncut-makes (pc + 2) (getting taken (lookup 0 index)) e)
+    effect-read (calls taken) details e =
+        calling-makes taken details (uncut-makes (pc + 2) (calling taken (lookup 1 index)) e)

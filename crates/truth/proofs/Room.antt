@@ -2,14 +2,14 @@
 -- Assumes nothing.
 use Prim.Native.Nat.{ℕ, _-_}
 use native.Mathlib.Omega.{arith}
-use mathlib.Core.Path.{_≡_, refl, _∙_, sym, ap, subst}
+use mathlib.Core.Path.{_≡_, refl, _∙_, sym, ap}
 use mathlib.Core.Bool.{Bool, true, false}
 use mathlib.Core.List.{List, [], _∷_}
 use lib.Dec.{leb}
 use lib.ListN.{length, take, replicate}
 use lib.Seq.{take-at}
 use Rattle.basics.specs.Choice.{pick}
-use Rattle.block.specs.Room.{Completed, Roomed, lacks, fits, judged, answerOf, shown, cellsOf}
+use Rattle.block.specs.Room.{Completed, Roomed, lacks, fits, judged, answerOf, cellsOf}
 use Rattle.block.specs.Walk.{Walked, done, failed}
 use Rattle.block.specs.declared.Walk.the-variants.{Done}
 

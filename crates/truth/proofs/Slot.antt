@@ -2,7 +2,7 @@
 -- Assumes nothing.
 use Prim.Native.Nat.{ℕ, _+_, _-_, _<_}
 use native.Mathlib.Omega.{arith}
-use mathlib.Core.Path.{_≡_, refl, _∙_, ap}
+use mathlib.Core.Path.{_≡_, refl, _∙_, sym, ap}
 use mathlib.Core.Bool.{Bool, true, false}
 use mathlib.Core.List.{List, [], _∷_}
 use lib.Dec.{T, ltb}
@@ -11,11 +11,10 @@ use lib.Seq.{drop-cons}
 use Rattle.basics.specs.Bytes.{byteAt, u16At, AreBytes}
 use Rattle.basics.specs.Choice.{pick}
 use Rattle.jvms.specs.Machine.{Pool, citedAt, State, isReference, topmost, dereferenced, target}
-use Rattle.jvms.specs.Stack.{Operand, Cited, slotsOf, slotsIn, nameOf, entryOf, operandsOf}
-use Rattle.descriptor.specs.Readers.{parameters, fieldSlots}
-use Rattle.descriptors.specs.Lenient.{closingAt}
-use Rattle.effects.specs.Agreement.{isDereference, aboveBy, citesMember, DepthAgrees}
-use Rattle.effects.specs.Depth.{Rule, none, fixed, reads, writes, invokes, ruleOf, Depth, nowhere, at, readable, fieldDepth, callDepth, uncut, depthBy, depthOf}
+use Rattle.jvms.specs.Stack.{Operand, Cited, slotsOf, slotsIn, nameOf}
+use Rattle.descriptor.specs.Readers.{fieldSlots}
+use Rattle.effects.specs.Agreement.{isDereference, aboveBy, citesMember}
+use Rattle.effects.specs.Depth.{Rule, none, fixed, reads, writes, invokes, ruleOf, Depth, nowhere, at, fieldDepth, callDepth, uncut, depthBy, depthOf}
 use Rattle.effects.specs.Lookup.{Known, missing, known, Lookup}
 use Rattle.effects.proofs.Depths.{depths-agree}
 use Rattle.truth.specs.Condition.{Described}
@@ -47,9 +46,12 @@ module _ (lookup : Lookup) (pool : Pool) (code : List ℕ) (pc : ℕ) (told : De
   read-depth missing e = no-depth e
   read-depth (known d) e = cc
 
-  write-depth : T (citesMember writes op) → (k : Known) → lookup 0 index ≡ k → fieldDepth k fieldSlots ≡ at depth → cited .field ≡ depth
+  write-depth :
+      T (citesMember writes op) → (k : Known) → lookup 0 index ≡ k → fieldDepth k fieldSlots ≡ at depth → cited .field ≡ depth
   write-depth t missing is e = no-depth e
-  write-depth t (known d) is e = let same : fieldSlots d ≡ depth = cc in omega (arith, same, field-slots lookup pool code pc told t d is)
+  write-depth t (known d) is e =
+      let same : fieldSlots d ≡ depth = cc in
+      sym (field-slots lookup pool code pc told t d is) ∙ same
 
   call-depth : T (citesMember invokes op) → (k : Known) → lookup 1 index ≡ k → callDepth k ≡ at depth → cited .args ≡ depth
   call-depth t missing is e = no-depth e
@@ -62,11 +64,15 @@ module _ (lookup : Lookup) (pool : Pool) (code : List ℕ) (pc : ℕ) (told : De
     pub dereferences : T (isDereference rule)
     pub above : aboveBy rule cited ≡ depth
 
-  deep : (rule : Rule) → (T (isDereference rule) → T (citesMember rule op)) → depthBy rule lookup code pc ≡ at depth → Deep rule
+  deep :
+      (rule : Rule) → (T (isDereference rule) → T (citesMember rule op)) → depthBy rule lookup code pc ≡ at depth → Deep rule
   deep none cites e = no-depth e
   deep (fixed n) cites e = record { dereferences = tt; above = cc }
   deep reads cites e =
-      record { dereferences = tt; above = read-depth (lookup 0 index) (uncut-depth code (pc + 2) (fieldDepth (lookup 0 index) (λ d. 0)) depth e) }
+      record {
+        dereferences = tt;
+        above = read-depth (lookup 0 index) (uncut-depth code (pc + 2) (fieldDepth (lookup 0 index) (λ d. 0)) depth e);
+      }
   deep writes cites e =
       record {
         dereferences = tt;
@@ -103,7 +109,8 @@ module _ {Val : Type 0} (stack : List Val) (absent : Val) where
       slotsIn cited os ≡ depth → depth < length stack →
       dereferenced cited (o ∷ os) (topmost (slotsIn cited (o ∷ os)) stack) ≡ under depth ∷ []
   first-operand cited o os depth named single weighs enough =
-      by-name (isReference (nameOf o)) named (dereferenced cited os (drop (slotsOf cited o) (topmost (slotsIn cited (o ∷ os)) stack)))
+      by-name (isReference (nameOf o)) named
+      (dereferenced cited os (drop (slotsOf cited o) (topmost (slotsIn cited (o ∷ os)) stack)))
     where
       by-name :
           (b : Bool) → T b → (others : List Val) →

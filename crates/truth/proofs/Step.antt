@@ -14,7 +14,7 @@ use Rattle.bytecode.specs.Length.{fixedLength}
 use Rattle.effects.specs.Lookup.{Lookup}
 use Rattle.effects.specs.Rows.{Row}
 use Rattle.block.specs.Walk.{Reason, pastEnd, tooLarge, tooFew, Marks, Push, blanks, load, carried, unread, does, effectBy}
-use Rattle.block.specs.Walk.{Made, refused, made, placed, pushed, applied, Outcome, stops, goes, passes, landed, step}
+use Rattle.block.specs.Walk.{Made, refused, made, placed, pushed, applied, stops, goes, passes, landed, step}
 
 -- ---- an effect
 
@@ -65,7 +65,8 @@ module _ {A : Type 0} (marks : Marks A) (pc : ℕ) where
 
 -- ---- a step
 
-module _ {A : Type 0} (marks : Marks A) (rows : ℕ → Row) (lookup : Lookup) (code : List ℕ) (fault pc : ℕ) (list : List A) where
+module _
+    {A : Type 0} (marks : Marks A) (rows : ℕ → Row) (lookup : Lookup) (code : List ℕ) (fault pc : ℕ) (list : List A) where
   abbrev pub effect : Made A
   effect = applied marks pc (effectBy lookup code pc (rows (byteAt code pc))) list
 
@@ -74,7 +75,8 @@ module _ {A : Type 0} (marks : Marks A) (rows : ℕ → Row) (lookup : Lookup) (
     pub lands : next ≡ pc + fixedLength (byteAt code pc)
     pub notPast : next ≤ fault
 
-  pub stepped : (next : ℕ) (slots : List A) → step marks rows lookup code fault pc list ≡ goes next slots → Stepped next slots
+  pub stepped :
+      (next : ℕ) (slots : List A) → step marks rows lookup code fault pc list ≡ goes next slots → Stepped next slots
   unfolding step
   stepped next slots e = by-end (ltb pc (length code)) e
     where

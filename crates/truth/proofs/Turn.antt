@@ -2,7 +2,7 @@
 -- Assumes nothing.
 use Prim.Native.Nat.{ℕ, _+_, _-_, _≤_}
 use native.Mathlib.Omega.{arith}
-use mathlib.Core.Path.{_≡_, refl, _∙_, sym, ap, subst}
+use mathlib.Core.Path.{_≡_, refl, _∙_, sym, ap}
 use mathlib.Core.List.{List, [], _∷_, _++_, append-nil}
 use lib.Dec.{T}
 use lib.ListN.{length, take, length-append}
@@ -11,7 +11,7 @@ use Rattle.basics.specs.Bytes.{byteAt}
 use Rattle.jvms.specs.Extent.{Extent, takes, extentAt}
 use Rattle.jvms.specs.Machine.{State, citedAt, sizeOf, below, topmost, replaced, results, next}
 use Rattle.jvms.specs.Stack.{objectref, reference, _⇒_, does, Cited, Form, Entry, entryOf}
-use Rattle.bytecode.specs.Length.{fixedLength, within, lengthOf}
+use Rattle.bytecode.specs.Length.{fixedLength, lengthOf}
 use Rattle.bytecode.specs.declared.Measure.the-variants.{Length}
 use Rattle.bytecode.proofs.Measuring.{fits}
 use Rattle.lengths.proofs.Agree.{jvms-length}
@@ -19,12 +19,12 @@ use Rattle.effects.specs.Agreement.{isModelled, hasEffect, takenBy, Pushed, For
 use Rattle.effects.specs.Rows.{Row, unmodelled, opaque, aload, aloadOf, carries, keeps, gets, calls}
 use Rattle.block.specs.Walk.{blanks, effectBy, made, applied}
 use Rattle.truth.specs.Condition.{InBlock, after, Described}
-use Rattle.truth.specs.Relation.{Held, Setting, ownBy, own, Speaks, Given}
+use Rattle.truth.specs.Relation.{Setting, own, Speaks, Given}
 use Rattle.truth.proofs.Above.{Above, moved, held-pushed}
 use Rattle.truth.proofs.Held.{same-length}
-use Rattle.truth.proofs.Machine.{topmost-length, checkcast-keeps, performed, Acted, acted}
+use Rattle.truth.proofs.Machine.{topmost-length, checkcast-keeps, performed, acted}
 use Rattle.truth.proofs.Reading.{pushFor, effect-read}
-use Rattle.truth.proofs.Step.{refused-not-made, pushes, Applied, applied-is, Stepped, stepped}
+use Rattle.truth.proofs.Step.{refused-not-made, applied-is, Stepped}
 
 -- a row has an effect, or is that of `checkcast`, or is not modelled
 pub data Sort : Row → Type 0 where
@@ -42,7 +42,8 @@ sort-of keeps = keeping
 sort-of (gets taken) = effective tt tt
 sort-of (calls taken) = effective tt tt
 
-module _ {A Val : Type 0} (s : Setting A Val) (given : Given s) (st : State Val) (list : List A) (a : Above s list (st .stack)) where
+module _
+    {A Val : Type 0} (s : Setting A Val) (given : Given s) (st : State Val) (list : List A) (a : Above s list (st .stack)) where
   abbrev op : ℕ
   op = byteAt (s .code) (st .pc)
 
@@ -60,15 +61,17 @@ module _ {A Val : Type 0} (s : Setting A Val) (given : Given s) (st : State Val)
 
   -- ---- where it goes
 
-  on-by-size : T (isModelled (s .rows op)) → after-it .pc ≡ st .pc + sizeOf (extentAt (s .code) (st .pc)) → after-it .pc ≡ st .pc + fixedLength op
-  on-by-size modelled e =
-      e ∙ ap (λ (x : Extent). st .pc + sizeOf x) (given .agrees .sized op (given .bytes (st .pc)) modelled (s .code) (st .pc) refl)
+  module _ (modelled : T (isModelled (s .rows op))) where
+    extent : extentAt (s .code) (st .pc) ≡ takes (fixedLength op)
+    extent = given .agrees .sized op (given .bytes (st .pc)) modelled (s .code) (st .pc) refl
 
-  measured : T (isModelled (s .rows op)) → st .pc + fixedLength op ≤ s .fault → lengthOf (s .code) (st .pc) ≡ Length (fixedLength op)
-  measured modelled notPast =
-      jvms-length (fixedLength op) (s .code) (given .bytes) (st .pc)
-      (given .agrees .sized op (given .bytes (st .pc)) modelled (s .code) (st .pc) refl)
-      ∙ sym (fits (s .code) (st .pc) (fixedLength op) (omega (arith, given .inside)))
+    on-by-size : after-it .pc ≡ st .pc + sizeOf (extentAt (s .code) (st .pc)) → after-it .pc ≡ st .pc + fixedLength op
+    on-by-size e = e ∙ ap (λ (x : Extent). st .pc + sizeOf x) extent
+
+    measured : st .pc + fixedLength op ≤ s .fault → lengthOf (s .code) (st .pc) ≡ Length (fixedLength op)
+    measured notPast =
+        jvms-length (fixedLength op) (s .code) (given .bytes) (st .pc) extent
+        ∙ sym (fits (s .code) (st .pc) (fixedLength op) (omega (arith, given .inside)))
 
   -- ---- what it leaves
 
@@ -108,7 +111,8 @@ module _ {A Val : Type 0} (s : Setting A Val) (given : Given s) (st : State Val)
         let act = acted s st (entryOf op) (agrees .some) in
         let went = applied-is (s .marks) (st .pc) list (takenBy row cited) push slots
         (effect-read (s .lookup) (s .pool) (s .code) (st .pc) told (s .marks) list slots row (agrees .details) e) in
-        let p = put-by row (act .form) (agrees .each (act .form) (act .its)) (act .stack) (reach (takenBy row cited) (went .enough)) in
+        let p =
+        put-by row (act .form) (agrees .each (act .form) (act .its)) (act .stack) (reach (takenBy row cited) (went .enough)) in
         moved s (st .pc) list (takenBy row cited) push slots (st .stack) (after-it .stack) (p .put) a went (p .stack)
         (held-pushed s given st speaks list row (p .put) a (agrees .details) (went .enough) (p .says))
 
@@ -126,7 +130,8 @@ module _ {A Val : Type 0} (s : Setting A Val) (given : Given s) (st : State Val)
 
     module _ (here : InBlock (s .code) (s .leader) (st .pc)) (next : ℕ) (slots : List A)
         (step : Stepped (s .marks) (s .rows) (s .lookup) (s .code) (s .fault) (st .pc) list next slots) where
-      turns : T (isModelled (s .rows op)) → T (hasForm (formsOf (entryOf op))) → Above s slots (after-it .stack) → Turned next slots
+      turns :
+          T (isModelled (s .rows op)) → T (hasForm (formsOf (entryOf op))) → Above s slots (after-it .stack) → Turned next slots
       turns modelled some leaves =
           let notPast : st .pc + fixedLength op ≤ s .fault = omega (arith, step .lands, step .notPast) in
           record {

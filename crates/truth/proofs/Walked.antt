@@ -12,13 +12,13 @@ use lib.Dec.{eqb, ltb}
 use borrow.Author.Tests.{eqb-true, ltb-true}
 use Rattle.basics.specs.Choice.{pick}
 use Rattle.jvms.specs.Machine.{State, next, ran}
-use Rattle.block.specs.Walk.{overshot, Outcome, stops, goes, passes, Walked, done, failed, step, ended, after, walkFrom, walk}
+use Rattle.block.specs.Walk.{overshot, Outcome, stops, goes, passes, done, failed, step, ended, after, walkFrom, walk}
 use Rattle.truth.specs.Condition.{InBlock, first}
 use Rattle.truth.specs.Relation.{none, Setting, machine, Speaks, Given, Translated, WalkTranslates}
 use Rattle.truth.proofs.Above.{Above}
 use Rattle.truth.proofs.Machine.{ran-next}
 use Rattle.truth.proofs.Step.{stepped}
-use Rattle.truth.proofs.Turn.{Turned, turned}
+use Rattle.truth.proofs.Turn.{turned}
 
 module _ {A Val : Type 0} (s : Setting A Val) (slots : List A) (count : ℕ) where
   abbrev Ends : ℕ → ℕ → List A → ℕ → Type 0
@@ -48,7 +48,8 @@ module _ {A Val : Type 0} (s : Setting A Val) (slots : List A) (count : ℕ) whe
       ended (s .marks) (s .rows) (s .lookup) (s .code) (s .fault) pc list n ≡ done slots count → Ended pc list n
   ended-is pc list n e = by-test (eqb pc (s .fault)) refl e
     where
-      by-test : (b : Bool) → eqb pc (s .fault) ≡ b → pick b (done list n) (failed n overshot) ≡ done slots count → Ended pc list n
+      by-test :
+          (b : Bool) → eqb pc (s .fault) ≡ b → pick b (done list n) (failed n overshot) ≡ done slots count → Ended pc list n
       by-test true h q = record { there = eqb-true pc (s .fault) h; left = cc; total = cc }
       by-test false h q = let z : _≡_ {A = ℕ} 0 1 = cc in absurd (omega arith)
 
@@ -67,7 +68,8 @@ module _ {A Val : Type 0} (s : Setting A Val) (slots : List A) (count : ℕ) whe
   unfolding walkFrom
   last-turn pc list n e = ended-is pc list n e
 
-  next-turn : (turns pc : ℕ) (list : List A) (n : ℕ) → Ends (suc turns) pc list n → Ended pc list n ⊎ Continued turns pc list n
+  next-turn :
+      (turns pc : ℕ) (list : List A) (n : ℕ) → Ends (suc turns) pc list n → Ended pc list n ⊎ Continued turns pc list n
   unfolding walkFrom
   next-turn turns pc list n e = by-test (ltb pc (s .fault)) refl e
     where
@@ -122,8 +124,8 @@ module _ {A Val : Type 0} (s : Setting A Val) (slots : List A) (count : ℕ) whe
         let pc : ℕ = machine s n .pc in
         let completed : n < count = omega (arith, count-grows turns (c .onward) (c .more) (n + 1) (c .rest)) in
         let t =
-        turned s given (machine s n) list (b .above) (given .described pc (b .inBlock) (omega (arith, c .before))) (speaks n completed)
-        (b .inBlock) (c .onward) (c .more)
+        turned s given (machine s n) list (b .above) (given .described pc (b .inBlock) (omega (arith, c .before)))
+        (speaks n completed) (b .inBlock) (c .onward) (c .more)
         (stepped (s .marks) (s .rows) (s .lookup) (s .code) (s .fault) pc list (c .onward) (c .more) (c .goesOn)) in
         let on : machine s (suc n) ≡ next (s .pool) (s .code) (s .opaque) (machine s n) =
         ran-next (s .pool) (s .code) (s .opaque) n (record { pc = s .leader; stack = s .entering; locals = s .locals }) in (
@@ -144,7 +146,8 @@ module _ {A Val : Type 0} (s : Setting A Val) (slots : List A) (count : ℕ) whe
             (λ (h : j < n). before j h)
             (eq-or-lt-of-le (le-of-suc-le-suc l))
 
-    translate : (turns : ℕ) (list : List A) (n : ℕ) → Beside list n → Ends turns (machine s n .pc) list n → Translated s slots count
+    translate :
+        (turns : ℕ) (list : List A) (n : ℕ) → Beside list n → Ends turns (machine s n .pc) list n → Translated s slots count
     translate zero list n b e = finish list n b (last-turn (machine s n .pc) list n e)
     translate (suc turns) list n b e =
         ⊎-elim

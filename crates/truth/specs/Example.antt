@@ -1,5 +1,6 @@
--- Condition 3 at work on one block, so that its premises are seen to be met: aload_0, dup, getfield J, pop2, aload_1, astore_0,
--- sipush 5, and the fault, invokevirtual (I)V. The cause is local 0 as loaded at 0, though a store to local 0 lies between.
+-- Condition 3 at work on one block, so that its premises are seen to be met: aload_0, dup, getfield J, pop2, aload_1,
+-- astore_0, sipush 5, and the fault, invokevirtual (I)V. The cause is local 0 as loaded at 0, though a store to local 0 lies
+-- between.
 -- Assumes nothing.
 use Prim.Native.Nat.{ℕ}
 use mathlib.Core.Path.{_≡_}

@@ -1,5 +1,5 @@
--- Condition 3 over any way to write slots, any table of rows that agrees with JVMS, and anything that a slot may say of a value.
--- proofs/Walked.antt has its proof. Document 01's walk is one case of it (proofs/Condition.antt).
+-- Condition 3 over any way to write slots, any table of rows that agrees with JVMS, and anything that a slot may say of a
+-- value. proofs/Walked.antt has its proof. Document 01's walk is one case of it (proofs/Condition.antt).
 -- Assumes nothing.
 use Prim.Native.Nat.{ℕ, _+_, _≤_, _<_}
 use mathlib.Core.Path.{_≡_}
@@ -15,10 +15,12 @@ use Rattle.block.specs.Walk.{Marks, done, walk}
 use Rattle.truth.specs.Condition.{InBlock, Described}
 use Rattle.truth.specs.Translation.{since}
 
--- one value for each slot, and of each slot says something true
+-- one value for each slot, and what each slot says of its value is true
 pub data Held {A Val : Type 0} (Says : A → Val → Type 0) : List A → List Val → Type 0 where
   none : Held Says [] []
-  one : {a : A} {v : Val} {slots : List A} {values : List Val} → Says a v → Held Says slots values → Held Says (a ∷ slots) (v ∷ values)
+  one :
+      {a : A} {v : Val} {slots : List A} {values : List Val} →
+      Says a v → Held Says slots values → Held Says (a ∷ slots) (v ∷ values)
 
 -- a block, how its walk writes slots, and a machine that runs it
 pub record Setting (A Val : Type 0) : Type 1 where
