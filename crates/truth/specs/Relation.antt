@@ -54,11 +54,12 @@ module _ {A Val : Type 0} (s : Setting A Val) where
   abbrev pub own : State Val → ℕ → Val
   own st = ownBy st (entryOf (byteAt (s .code) (st .pc)))
 
-  -- what slots that are written here say is true
+  -- what the slots that are written here say is true: of what the instruction makes, and of what a local holds
   pub record Speaks (st : State Val) : Type 0 where
     pub made : (k : ℕ) → s .Says (s .marks .blank (st .pc)) (own st k)
     pub held : (n : ℕ) → n < 256 → s .Says (s .marks .mark (st .pc) n) (st .locals n)
 
+  -- what is supposed of the rows, the code and the cited descriptors
   pub record Given : Type 1 where
     pub agrees : Agreeing (s .rows)
     pub bytes : AreBytes (s .code)
@@ -66,6 +67,7 @@ module _ {A Val : Type 0} (s : Setting A Val) where
     pub described :
         (pc : ℕ) → InBlock (s .code) (s .leader) pc → pc ≤ s .fault → Described (s .lookup) (s .pool) (s .code) pc
 
+  -- the machine has run from the leader to the fault, and what lies above the entering stack holds what the slots say
   pub record Translated (slots : List A) (count : ℕ) : Type 0 where
     pub reached : machine count .pc ≡ s .fault
     pub notBefore : (j : ℕ) → j < count → machine j .pc < s .fault
