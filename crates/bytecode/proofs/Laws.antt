@@ -65,6 +65,11 @@ rule-of measure documented =
 pub document-rule : LengthRule
 document-rule = rule-of lengthOf (λ code pc n e. e)
 
+-- it measures by document 01's definition
+pub document-measures : document-rule .measure ≡ lengthOf
+unfolding document-rule rule-of
+document-measures = refl
+
 -- measured implies in bounds: by any rule, each byte of an instruction that has a length lies in the code
 pub measured-in-bounds :
     (rule : LengthRule) (code : List ℕ) (pc n : ℕ) → rule .measure code pc ≡ Length n →

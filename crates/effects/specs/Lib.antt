@@ -1,3 +1,4 @@
+pub mod Agreement
 pub mod Depth
 pub mod Lookup
 pub mod Rows

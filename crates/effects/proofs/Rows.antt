@@ -1,0 +1,186 @@
+-- Document 01's rows agree with JVMS, opcode by opcode: one test that antt computes over all of them, and what it says.
+-- The same test serves any other table of rows.
+-- Assumes nothing.
+use Prim.Native.Nat.{ℕ, _<_}
+use mathlib.Core.Path.{_≡_, refl, sym, ap, subst}
+use mathlib.Core.Bool.{Bool, true, false}
+use mathlib.Core.Logic.{⊎-elim}
+use mathlib.Core.List.{List, [], _∷_, List·Memᴰ, List·Memᴰ·not-nil, List·Memᴰ·cases-cons}
+use lib.Dec.{T, eqb, ltb, eqb→eq, ltb→lt}
+use Rattle.basics.specs.Bytes.{byteAt}
+use Rattle.basics.specs.Choice.{both, alike, between}
+use Rattle.basics.proofs.Every.{both-first, both-second, alike-is, every, every-at}
+use Rattle.jvms.specs.Extent.{takes, extentBy, extentAt}
+use Rattle.jvms.specs.Format.{Format, tableswitch, lookupswitch, wide, reserved, formatOf}
+use Rattle.jvms.specs.Format.{fixed as fixedFormat}
+use Rattle.jvms.specs.Stack.{objectref, reference, Form, _⇒_, Local, indexed, numbered, does, entryOf}
+use Rattle.bytecode.specs.Length.{fixedBy, fixedLength}
+use Rattle.effects.specs.Agreement.{isModelled, hasEffect, within, FormAgrees, formsOf, hasForm, localOf, Details, EffectAgrees}
+use Rattle.effects.specs.Agreement.{Agreeing, RowsAgree, documented, ModelsDocumented}
+use Rattle.effects.specs.Rows.{Row, unmodelled, opaque, aload, aloadOf, carries, keeps, gets, calls, rowOf}
+use Rattle.effects.proofs.Forms.{formFits, form-agrees}
+
+-- ---- a row and an opcode
+
+abbrev eachFits : Row → List Form → Bool
+eachFits row [] = true
+eachFits row (f ∷ fs) = both (formFits row f) (eachFits row fs)
+
+each-agrees : (row : Row) (fs : List Form) → T (eachFits row fs) → (form : Form) → List·Memᴰ form fs → FormAgrees row form
+each-agrees row [] t form m = absurd (List·Memᴰ·not-nil m)
+each-agrees row (f ∷ fs) t form m =
+    ⊎-elim
+    (λ (e : form ≡ f). subst (λ (g : Form). FormAgrees row g) (sym e) (form-agrees row f (both-first (formFits row f) _ t)))
+    (λ (rest : List·Memᴰ form fs). each-agrees row fs (both-second (formFits row f) _ t) form rest)
+    (List·Memᴰ·cases-cons m)
+
+abbrev isIndexed : List Local → Bool
+isIndexed [] = false
+isIndexed (indexed ∷ []) = true
+isIndexed (indexed ∷ l ∷ ls) = false
+isIndexed (numbered n ∷ ls) = false
+
+abbrev isNumbered : ℕ → List Local → Bool
+isNumbered local [] = false
+isNumbered local (indexed ∷ ls) = false
+isNumbered local (numbered n ∷ []) = both (eqb n local) (ltb local 256)
+isNumbered local (numbered n ∷ l ∷ ls) = false
+
+indexed-is : (ls : List Local) → T (isIndexed ls) → ls ≡ indexed ∷ []
+indexed-is [] t = absurd t
+indexed-is (indexed ∷ []) t = refl
+indexed-is (indexed ∷ l ∷ ls) t = absurd t
+indexed-is (numbered n ∷ ls) t = absurd t
+
+numbered-is : (local : ℕ) (ls : List Local) → T (isNumbered local ls) → (ls ≡ numbered local ∷ []) × (local < 256)
+numbered-is local [] t = absurd t
+numbered-is local (indexed ∷ ls) t = absurd t
+numbered-is local (numbered n ∷ []) t = (
+  ap (λ (k : ℕ). numbered k ∷ []) (eqb→eq n local (both-first (eqb n local) _ t)),
+  ltb→lt local 256 (both-second (eqb n local) _ t),
+)
+numbered-is local (numbered n ∷ l ∷ ls) t = absurd t
+
+abbrev detailsFit : Row → ℕ → Bool
+detailsFit unmodelled op = true
+detailsFit (opaque taken given) op = true
+detailsFit aload op = isIndexed (localOf (entryOf op))
+detailsFit (aloadOf local) op = isNumbered local (localOf (entryOf op))
+detailsFit (carries taken places) op = within taken places
+detailsFit keeps op = true
+detailsFit (gets taken) op = between 178 181 op
+detailsFit (calls taken) op = between 182 185 op
+
+details-agree : (row : Row) (op : ℕ) → T (detailsFit row op) → Details row op
+details-agree unmodelled op t = tt
+details-agree (opaque taken given) op t = tt
+details-agree aload op t = indexed-is (localOf (entryOf op)) t
+details-agree (aloadOf local) op t = numbered-is local (localOf (entryOf op)) t
+details-agree (carries taken places) op t = t
+details-agree keeps op t = tt
+details-agree (gets taken) op t = t
+details-agree (calls taken) op t = t
+
+abbrev effectFits : Row → ℕ → Bool
+effectFits row op =
+    both (hasForm (formsOf (entryOf op))) (both (eachFits row (formsOf (entryOf op))) (detailsFit row op))
+
+effect-agrees : (row : Row) (op : ℕ) → T (effectFits row op) → EffectAgrees op row
+effect-agrees row op t =
+    let forms : List Form = formsOf (entryOf op) in
+    let t1 = both-second (hasForm forms) _ t in
+    record {
+      some = both-first (hasForm forms) _ t;
+      each = each-agrees row forms (both-first (eachFits row forms) _ t1);
+      details = details-agree row op (both-second (eachFits row forms) _ t1);
+    }
+
+-- ---- `checkcast`, and lengths
+
+-- only the opcode of `checkcast` has its row
+abbrev keepsFits : Row → ℕ → Bool
+keepsFits unmodelled op = true
+keepsFits (opaque taken given) op = true
+keepsFits aload op = true
+keepsFits (aloadOf local) op = true
+keepsFits (carries taken places) op = true
+keepsFits keeps op = eqb op 192
+keepsFits (gets taken) op = true
+keepsFits (calls taken) op = true
+
+checkcast-is : (op : ℕ) → op ≡ 192 → entryOf op ≡ does (reference objectref ∷ [] ⇒ reference objectref ∷ [])
+unfolding entryOf
+checkcast-is op e = rw e
+
+abbrev isFixed : Format → Bool
+isFixed (fixedFormat os) = true
+isFixed tableswitch = false
+isFixed lookupswitch = false
+isFixed wide = false
+isFixed reserved = false
+
+fixed-extent : (f : Format) → T (isFixed f) → (code : List ℕ) (pc : ℕ) → extentBy f code pc ≡ takes (fixedBy f)
+fixed-extent (fixedFormat os) t code pc = refl
+fixed-extent tableswitch t code pc = absurd t
+fixed-extent lookupswitch t code pc = absurd t
+fixed-extent wide t code pc = absurd t
+fixed-extent reserved t code pc = absurd t
+
+opcode-extent :
+    (op : ℕ) → T (isFixed (formatOf op)) →
+    (code : List ℕ) (pc : ℕ) → byteAt code pc ≡ op → extentAt code pc ≡ takes (fixedLength op)
+unfolding extentAt fixedLength
+opcode-extent op t code pc e = rw e (fixed-extent (formatOf op) t code pc)
+
+-- ---- the test
+
+-- a test that is made only where it is asked for
+abbrev pub whereAsked : Bool → Bool → Bool
+whereAsked true test = test
+whereAsked false test = true
+
+pub asked : (b test : Bool) → T b → T (whereAsked b test) → T test
+asked true test s t = t
+asked false test s t = absurd s
+
+abbrev effectTest : Row → ℕ → Bool
+effectTest row op = whereAsked (hasEffect row) (effectFits row op)
+
+abbrev sizeTest : Row → ℕ → Bool
+sizeTest row op = whereAsked (isModelled row) (isFixed (formatOf op))
+
+abbrev rowFits : Row → ℕ → Bool
+rowFits row op = both (effectTest row op) (both (keepsFits row op) (sizeTest row op))
+
+-- a table that passes it agrees with JVMS
+pub passed-agrees : (rows : ℕ → Row) → T (every (λ op. rowFits (rows op) op) 256) → Agreeing rows
+passed-agrees rows passed =
+    record {
+      effect = λ op below some.
+          effect-agrees (rows op) op
+          (asked (hasEffect (rows op)) (effectFits (rows op) op) some (both-first (effectTest (rows op) op) _ (at op below)));
+      kept = λ op below e.
+          checkcast-is op
+          (eqb→eq op 192 (subst (λ (r : Row). T (keepsFits r op)) e (both-first (keepsFits (rows op) op) _ (later op below))));
+      sized = λ op below some.
+          opcode-extent op
+          (asked (isModelled (rows op)) (isFixed (formatOf op)) some (both-second (keepsFits (rows op) op) _ (later op below)));
+    }
+  where
+    at : (op : ℕ) → op < 256 → T (rowFits (rows op) op)
+    at op below = every-at (λ k. rowFits (rows k) k) 256 passed op below
+
+    later : (op : ℕ) → op < 256 → T (both (keepsFits (rows op) op) (sizeTest (rows op) op))
+    later op below = both-second (effectTest (rows op) op) _ (at op below)
+
+-- document 01's passes
+pub rows-agree : RowsAgree
+unfolding rowOf entryOf formatOf
+rows-agree = passed-agrees rowOf tt
+
+-- document 01 models the opcodes that it lists, and no other
+pub models-documented : ModelsDocumented
+unfolding rowOf
+models-documented op below =
+    alike-is (isModelled (rowOf op)) (documented op)
+    (every-at (λ k. alike (isModelled (rowOf k)) (documented k)) 256 tt op below)

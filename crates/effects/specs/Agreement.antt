@@ -1,0 +1,195 @@
+-- Document 01's rows and depths against the operands and results of JVMS, as statements. proofs/ of this crate has a proof
+-- of each. They are said of any table of rows, at every opcode and for every member that an instruction cites.
+-- Assumes nothing.
+use Prim.Native.Nat.{ℕ, _+_, _-_, _<_}
+use mathlib.Core.Path.{_≡_}
+use mathlib.Core.Bool.{Bool, true, false}
+use mathlib.Core.List.{List, [], _∷_, map, List·Memᴰ}
+use lib.Dec.{T, leb}
+use lib.ListN.{length, getD}
+use Rattle.basics.specs.Bytes.{byteAt}
+use Rattle.basics.specs.Choice.{pick, both, oneOf, between}
+use Rattle.jvms.specs.Extent.{takes, extentAt}
+use Rattle.jvms.specs.Machine.{isReference, run, results}
+use Rattle.jvms.specs.Stack.{objectref, Operand, reference, Form, _⇒_, Local, indexed, numbered, Entry, unlisted, does, eitherOf, loads, stores, increments, throws}
+use Rattle.jvms.specs.Stack.{Cited, slotsOf, slotsIn, nameOf, entryOf, operandsOf}
+use Rattle.bytecode.specs.Length.{fixedLength}
+use Rattle.effects.specs.Depth.{Rule, none, fixed, reads, writes, invokes, ruleOf}
+use Rattle.effects.specs.Rows.{Row, unmodelled, opaque, aload, aloadOf, carries, keeps, gets, calls, rowOf}
+
+-- ---- what a row says
+
+abbrev pub isModelled : Row → Bool
+isModelled unmodelled = false
+isModelled (opaque taken given) = true
+isModelled aload = true
+isModelled (aloadOf local) = true
+isModelled (carries taken places) = true
+isModelled keeps = true
+isModelled (gets taken) = true
+isModelled (calls taken) = true
+
+-- modelled, and not `checkcast`, which document 01 lets keep the list and ask for no slot
+abbrev pub hasEffect : Row → Bool
+hasEffect unmodelled = false
+hasEffect (opaque taken given) = true
+hasEffect aload = true
+hasEffect (aloadOf local) = true
+hasEffect (carries taken places) = true
+hasEffect keeps = false
+hasEffect (gets taken) = true
+hasEffect (calls taken) = true
+
+-- the slots that a row takes and those that it gives, where the cited member has so many
+abbrev pub takenBy : Row → Cited → ℕ
+takenBy unmodelled cited = 0
+takenBy (opaque taken given) cited = taken
+takenBy aload cited = 0
+takenBy (aloadOf local) cited = 0
+takenBy (carries taken places) cited = taken
+takenBy keeps cited = 0
+takenBy (gets taken) cited = taken
+takenBy (calls taken) cited = taken + cited .args
+
+abbrev pub givenBy : Row → Cited → ℕ
+givenBy unmodelled cited = 0
+givenBy (opaque taken given) cited = given
+givenBy aload cited = 1
+givenBy (aloadOf local) cited = 1
+givenBy (carries taken places) cited = length places
+givenBy keeps cited = 0
+givenBy (gets taken) cited = cited .field
+givenBy (calls taken) cited = cited .gives
+
+-- What a row says of the slots that are pushed, where `taken` were taken: each is one of those, by its number from the top;
+-- or each is the instruction's own.
+abbrev pub Carried : {Val : Type 0} → List ℕ → List Val → List Val → Type 0
+Carried {Val} places taken pushed = (absent : Val) → pushed ≡ map (λ place. getD taken (length taken - place) absent) places
+
+abbrev pub Pushed : {Val : Type 0} → Row → Cited → List Val → (ℕ → Val) → List Val → Type 0
+Pushed unmodelled cited taken own pushed = pushed ≡ []
+Pushed (opaque t given) cited taken own pushed = pushed ≡ run given 0 own
+Pushed aload cited taken own pushed = pushed ≡ run 1 0 own
+Pushed (aloadOf local) cited taken own pushed = pushed ≡ run 1 0 own
+Pushed (carries t places) cited taken own pushed = Carried places taken pushed
+Pushed keeps cited taken own pushed = pushed ≡ []
+Pushed (gets t) cited taken own pushed = pushed ≡ run (cited .field) 0 own
+Pushed (calls t) cited taken own pushed = pushed ≡ run (cited .gives) 0 own
+
+-- every place is that of a slot that is taken
+abbrev pub within : ℕ → List ℕ → Bool
+within taken [] = true
+within taken (place ∷ places) = both (between 1 taken place) (within taken places)
+
+-- ---- a row against what JVMS says
+
+-- "..., before → ..., after"
+pub record FormAgrees (row : Row) (form : Form) : Type 1 where
+  pub taken : (cited : Cited) → slotsIn cited (form .before) ≡ takenBy row cited
+  pub given : (cited : Cited) → slotsIn cited (form .after) ≡ givenBy row cited
+  -- for values of any type, and any own results
+  pub pushed :
+      (Val : Type 0) (cited : Cited) (operands : List Val) (own : ℕ → Val) → length operands ≡ takenBy row cited →
+      Pushed row cited operands own (results cited (form .before) operands own 0 (form .after))
+
+-- the forms of an entry, both where it has two; none where control does not go on
+abbrev pub formsOf : Entry → List Form
+formsOf unlisted = []
+formsOf (does f) = f ∷ []
+formsOf (eitherOf f g) = f ∷ g ∷ []
+formsOf (loads l f) = f ∷ []
+formsOf (stores l f) = f ∷ []
+formsOf (increments f) = f ∷ []
+formsOf (throws os) = []
+
+abbrev pub hasForm : List Form → Bool
+hasForm [] = false
+hasForm (f ∷ fs) = true
+
+-- the local whose value an entry loads
+abbrev pub localOf : Entry → List Local
+localOf unlisted = []
+localOf (does f) = []
+localOf (eitherOf f g) = []
+localOf (loads l f) = l ∷ []
+localOf (stores l f) = []
+localOf (increments f) = []
+localOf (throws os) = []
+
+-- which local is loaded, that places are those of slots taken, that the opcode cites a field or a method
+abbrev pub Details : Row → ℕ → Type 0
+Details unmodelled op = Unit {0}
+Details (opaque taken given) op = Unit {0}
+Details aload op = localOf (entryOf op) ≡ indexed ∷ []
+Details (aloadOf local) op = (localOf (entryOf op) ≡ numbered local ∷ []) × (local < 256)
+Details (carries taken places) op = T (within taken places)
+Details keeps op = Unit {0}
+Details (gets taken) op = T (between 178 181 op)
+Details (calls taken) op = T (between 182 185 op)
+
+pub record EffectAgrees (op : ℕ) (row : Row) : Type 1 where
+  pub some : T (hasForm (formsOf (entryOf op)))
+  pub each : (form : Form) → List·Memᴰ form (formsOf (entryOf op)) → FormAgrees row form
+  pub details : Details row op
+
+pub record Agreeing (rows : ℕ → Row) : Type 1 where
+  -- every modelled opcode but `checkcast`
+  pub effect : (op : ℕ) → op < 256 → T (hasEffect (rows op)) → EffectAgrees op (rows op)
+  -- `checkcast`: JVMS takes its objectref and gives it back
+  pub kept : (op : ℕ) → op < 256 → rows op ≡ keeps → entryOf op ≡ does (reference objectref ∷ [] ⇒ reference objectref ∷ [])
+  -- its length is that of its opcode, by JVMS as by document 01
+  pub sized :
+      (op : ℕ) → op < 256 → T (isModelled (rows op)) →
+      (code : List ℕ) (pc : ℕ) → byteAt code pc ≡ op → extentAt code pc ≡ takes (fixedLength op)
+
+-- document 01's
+abbrev pub RowsAgree : Type 1
+RowsAgree = Agreeing rowOf
+
+-- "0 to 78 (constants, loads, array loads, stores to locals), `pop`, `pop2`, `dup`, `dup2`, `swap`, `iinc`, `checkcast`,
+-- `instanceof`, `new`, `newarray`, `anewarray`, `arraylength`, `getstatic`, `getfield`, and the four invokes 182 to 185. All
+-- else fails"
+abbrev pub documented : ℕ → Bool
+documented op =
+    pick (leb op 78) true
+    (oneOf (87 ∷ 88 ∷ 89 ∷ 92 ∷ 95 ∷ 132 ∷ 192 ∷ 193 ∷ 187 ∷ 188 ∷ 189 ∷ 190 ∷ 178 ∷ 180 ∷ 182 ∷ 183 ∷ 184 ∷ 185 ∷ []) op)
+
+abbrev pub ModelsDocumented : Type 0
+ModelsDocumented = (op : ℕ) → op < 256 → isModelled (rowOf op) ≡ documented op
+
+-- ---- a depth against what JVMS says
+
+abbrev pub isDereference : Rule → Bool
+isDereference none = false
+isDereference (fixed depth) = true
+isDereference reads = true
+isDereference writes = true
+isDereference invokes = true
+
+-- the slots above the one that is dereferenced
+abbrev pub aboveBy : Rule → Cited → ℕ
+aboveBy none cited = 0
+aboveBy (fixed depth) cited = depth
+aboveBy reads cited = 0
+aboveBy writes cited = cited .field
+aboveBy invokes cited = cited .args
+
+abbrev pub citesMember : Rule → ℕ → Bool
+citesMember none op = true
+citesMember (fixed depth) op = true
+citesMember reads op = between 178 181 op
+citesMember writes op = between 178 181 op
+citesMember invokes op = between 182 185 op
+
+-- of the operands that JVMS lists, the first is the one that it names objectref or arrayref, and the others lie above it
+pub record DepthAgrees (op : ℕ) (rule : Rule) : Type 0 where
+  pub operand : Operand
+  pub above : List Operand
+  pub listed : operandsOf (entryOf op) ≡ operand ∷ above
+  pub named : T (isReference (nameOf operand))
+  pub single : (cited : Cited) → slotsOf cited operand ≡ 1
+  pub weighs : (cited : Cited) → slotsIn cited above ≡ aboveBy rule cited
+  pub cites : T (citesMember rule op)
+
+abbrev pub DepthsAgree : Type 0
+DepthsAgree = (op : ℕ) → op < 256 → T (isDereference (ruleOf op)) → DepthAgrees op (ruleOf op)

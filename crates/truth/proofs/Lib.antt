@@ -1,0 +1,15 @@
+pub mod Above
+pub mod Carried
+pub mod Cause
+pub mod Cell
+pub mod Condition
+pub mod Example
+pub mod Force
+pub mod Held
+pub mod Machine
+pub mod Reading
+pub mod Room
+pub mod Slot
+pub mod Step
+pub mod Turn
+pub mod Walked

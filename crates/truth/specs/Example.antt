@@ -1,0 +1,39 @@
+-- Condition 3 at work on one block, so that its premises are seen to be met: aload_0, dup, getfield J, pop2, aload_1,
+-- astore_0, sipush 5, and the fault, invokevirtual (I)V. The cause is local 0 as loaded at 0, though a store to local 0 lies
+-- between.
+-- Assumes nothing.
+use Prim.Native.Nat.{ℕ}
+use mathlib.Core.Path.{_≡_}
+use mathlib.Core.List.{List, [], _∷_}
+use Rattle.jvms.specs.Descriptor.{int, long, base, void}
+use Rattle.jvms.specs.Machine.{Pool, target}
+use Rattle.truth.specs.Condition.{Report, Premises}
+use Rattle.truth.specs.Translation.{since, Loaded}
+
+abbrev pub report : Report
+report =
+    record {
+      code = 0x2a ∷ 0x59 ∷ 0xb4 ∷ 0 ∷ 1 ∷ 0x58 ∷ 0x2b ∷ 0x4b ∷ 0x11 ∷ 0 ∷ 5 ∷ 0xb6 ∷ 0 ∷ 2 ∷ 0xb1 ∷ [];
+      -- 1: field A.f J; 2: method A.m (I)V
+      members = 1 ∷ 0 ∷ 1 ∷ 65 ∷ 1 ∷ 102 ∷ 1 ∷ 74 ∷ 2 ∷ 1 ∷ 1 ∷ 65 ∷ 1 ∷ 109 ∷ 4 ∷ 40 ∷ 73 ∷ 41 ∷ 86 ∷ [];
+      memberCount = 2;
+      fault = 11;
+      leader = 0;
+      height = 2;
+      count = 7;
+      -- the load of local 0 at 0, and the opaque 5
+      stack = 1 ∷ 0 ∷ 0 ∷ 0 ∷ [];
+    }
+
+abbrev pub pool : Pool
+pool = record { field = λ index. base long; method = λ index. record { parameters = base int ∷ []; result = void } }
+
+abbrev pub PremisesMet : Type 0
+PremisesMet = Premises report pool
+
+-- whatever the values, what would be dereferenced is what local 0 held when the instruction at 0 ran
+abbrev pub NamedRightly : Type 1
+NamedRightly =
+    (Val : Type 0) (opaque : ℕ → ℕ → Val) (entering : List Val) (locals : ℕ → Val) →
+    (v : Val) × (target pool (report .code) (since pool (report .code) opaque 0 entering locals 7) ≡ v ∷ [])
+    × Loaded (since pool (report .code) opaque 0 entering locals) 7 0 0 v
