@@ -24,11 +24,13 @@ elementText element =
 unfoldable pub quoted : List ℕ → List ℕ → List ℕ
 quoted words name = words ++ ascii "\"" ++ name ++ ascii "\""
 
--- "Cannot invoke "C.M(P, P)"", of the part that holds a method's texts
+-- "C.M", of the part that holds a method's texts
+unfoldable pub methodText : List ℕ → List ℕ
+methodText texts = className (classOf texts) ++ ascii "." ++ nameOf texts
+
+-- "Cannot invoke "C.M(P, P)""
 unfoldable pub invokeText : List ℕ → List ℕ
-invokeText texts =
-    ascii "Cannot invoke \"" ++ className (classOf texts) ++ ascii "." ++ nameOf texts ++ ascii "("
-    ++ parameterNames (descriptorOf texts) ++ ascii ")\""
+invokeText texts = ascii "Cannot invoke \"" ++ methodText texts ++ ascii "(" ++ parameterNames (descriptorOf texts) ++ ascii ")\""
 
 unfoldable pub arrayText : List ℕ → ℕ → List ℕ
 arrayText words element = words ++ elementText element ++ ascii " array"

@@ -6,7 +6,7 @@ use text::put_at;
 ghost use mathlib.Core.Path.{_≡_};
 ghost use mathlib.Core.List.{_++_};
 ghost use Rattle.text.specs.Writing.{Written};
-ghost use Rattle.message.specs.Message.{elementText, quoted, invokeText, arrayText, actionText, causeText};
+ghost use Rattle.message.specs.Message.{elementText, quoted, methodText, invokeText, arrayText, actionText, causeText};
 
 fn put_element_at(out: &mut [u8], at: usize, element: usize) -> usize
     ensures { λ r. ⌜ Written at (elementText element) (now (out .entry)) r (now (out .exit)) ⌝ }
@@ -40,17 +40,23 @@ fn put_array_at(out: &mut [u8], at: usize, words: &[u8], element: usize) -> usiz
     put_at(out, end, b" array")
 }
 
-// The method of the part that holds its texts: class, name and parameters.
+// The class and the name of a method, of the part that holds its texts.
+fn put_method_at(out: &mut [u8], at: usize, texts: &[u8]) -> usize
+    ensures { λ r. ⌜ Written at (methodText (now (texts .entry))) (now (out .entry)) r (now (out .exit)) ⌝ }
+{
+    let dot = names::put_class_at(out, at, casefile::class_of(texts));
+    let name = put_at(out, dot, b".");
+    put_at(out, name, casefile::name_of(texts))
+}
+
 fn put_invoke_at(out: &mut [u8], at: usize, texts: &[u8]) -> usize
     ensures { λ r. ⌜ Written at (invokeText (now (texts .entry))) (now (out .entry)) r (now (out .exit)) ⌝ }
 {
-    let class_at = put_at(out, at, b"Cannot invoke \"");
-    let dot_at = names::put_class_at(out, class_at, casefile::class_of(texts));
-    let name_at = put_at(out, dot_at, b".");
-    let open_at = put_at(out, name_at, casefile::name_of(texts));
-    let params_at = put_at(out, open_at, b"(");
-    let close_at = names::put_params_at(out, params_at, casefile::descriptor_of(texts));
-    put_at(out, close_at, b")\"")
+    let method = put_at(out, at, b"Cannot invoke \"");
+    let open = put_method_at(out, method, texts);
+    let params = put_at(out, open, b"(");
+    let close = names::put_params_at(out, params, casefile::descriptor_of(texts));
+    put_at(out, close, b")\"")
 }
 
 // Writes the action that failed.

@@ -1,3 +1,4 @@
+use Rattle.message.specs.Message.{actionText}
 use borrow.Author.Needs.{needs}
 use Rattle.message.proofs.put_action_at.Statement.{statement}
 use Rattle.message.proofs.put_action_at.Tie as tie
@@ -140,7 +141,8 @@ same-length c = search needs
 
 -- src/lib.rt:57:1
 returns : tie.Need-returns
-returns c = ?
+unfolding actionText
+returns c = rw (c .before .before .before .before .before .before .before .before .action .given .1, ← c .before .before .before .before .before .before .find-member .ensures, ← c .before .before .before .name-of .ensures) (c .before .before .put-quoted-at .ensures)
 
 -- src/lib.rt:57:1
 same-length-2 : tie.Need-same-length-2
@@ -148,7 +150,8 @@ same-length-2 c = search needs
 
 -- src/lib.rt:57:1
 returns-2 : tie.Need-returns-2
-returns-2 c = ?
+unfolding actionText
+returns-2 c = rw (c .before .before .before .before .before .before .before .before .action2 .given .1, ← c .before .before .before .before .before .before .find-member2 .ensures, ← c .before .before .before .name-of2 .ensures) (c .before .before .put-quoted-at2 .ensures)
 
 -- src/lib.rt:57:1
 same-length-3 : tie.Need-same-length-3
@@ -156,7 +159,8 @@ same-length-3 c = search needs
 
 -- src/lib.rt:57:1
 returns-3 : tie.Need-returns-3
-returns-3 c = ?
+unfolding actionText
+returns-3 c = rw (c .before .before .before .before .before .before .action3 .given .1, ← c .before .before .before .find-member3 .ensures) (c .before .before .put-invoke-at .ensures)
 
 -- src/lib.rt:57:1
 same-length-4 : tie.Need-same-length-4
@@ -164,7 +168,8 @@ same-length-4 c = search needs
 
 -- src/lib.rt:57:1
 returns-4 : tie.Need-returns-4
-returns-4 c = ?
+unfolding actionText
+returns-4 c = rw (c .before .before .before .before .before .before .action4 .given .1) (c .before .before .put-array-at .ensures)
 
 -- src/lib.rt:57:1
 same-length-5 : tie.Need-same-length-5
@@ -172,7 +177,8 @@ same-length-5 c = search needs
 
 -- src/lib.rt:57:1
 returns-5 : tie.Need-returns-5
-returns-5 c = ?
+unfolding actionText
+returns-5 c = rw (c .before .before .before .before .before .before .action5 .given .1) (c .before .before .put-array-at2 .ensures)
 
 -- src/lib.rt:57:1
 same-length-6 : tie.Need-same-length-6
@@ -180,7 +186,8 @@ same-length-6 c = search needs
 
 -- src/lib.rt:57:1
 returns-6 : tie.Need-returns-6
-returns-6 c = ?
+unfolding actionText
+returns-6 c = rw (c .before .before .before .before .before .enum-told .given .1) (c .before .before .put-at .ensures)
 
 -- src/lib.rt:57:1
 same-length-7 : tie.Need-same-length-7
@@ -188,7 +195,8 @@ same-length-7 c = search needs
 
 -- src/lib.rt:57:1
 returns-7 : tie.Need-returns-7
-returns-7 c = ?
+unfolding actionText
+returns-7 c = rw (c .before .before .before .before .before .enum-told2 .given .1) (c .before .before .put-at2 .ensures)
 
 -- src/lib.rt:57:1
 same-length-8 : tie.Need-same-length-8
@@ -196,7 +204,8 @@ same-length-8 c = search needs
 
 -- src/lib.rt:57:1
 returns-8 : tie.Need-returns-8
-returns-8 c = ?
+unfolding actionText
+returns-8 c = rw (c .before .before .before .before .before .enum-told3 .given .1) (c .before .before .put-at3 .ensures)
 
 -- src/lib.rt:57:1
 same-length-9 : tie.Need-same-length-9
@@ -204,7 +213,8 @@ same-length-9 c = search needs
 
 -- src/lib.rt:57:1
 returns-9 : tie.Need-returns-9
-returns-9 c = ?
+unfolding actionText
+returns-9 c = rw (c .before .before .before .before .before .enum-told4 .given .1) (c .before .before .put-at4 .ensures)
 
 pub put-action-at-spec : {M : Type 1} → statement M
 put-action-at-spec =

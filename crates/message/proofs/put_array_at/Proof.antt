@@ -1,3 +1,6 @@
+use Rattle.message.specs.Message.{arrayText}
+use Rattle.text.proofs.Writing.{written-then}
+use native.Mathlib.Omega.{arith}
 use borrow.Author.Needs.{needs}
 use Rattle.message.proofs.put_array_at.Statement.{statement}
 use Rattle.message.proofs.put_array_at.Tie as tie
@@ -28,7 +31,8 @@ same-length c = search needs
 
 -- src/lib.rt:35:1
 returns : tie.Need-returns
-returns c = ?
+unfolding arrayText
+returns c = written-then (omega arith) (written-then (omega arith) (c .before .before .before .before .before .before .before .before .before .before .before .put-at .ensures) (c .before .before .before .before .before .before .before .put-element-at .ensures)) (c .before .before .put-at2 .ensures)
 
 pub put-array-at-spec : {M : Type 1} → statement M
 put-array-at-spec =

@@ -1,3 +1,7 @@
+use denote.Ref.{now}
+use Rattle.message.specs.Message.{causeText}
+use Rattle.text.proofs.Writing.{written-then, written-none}
+use native.Mathlib.Omega.{arith}
 use borrow.Author.Needs.{needs}
 use Rattle.message.proofs.put_cause_at.Statement.{statement}
 use Rattle.message.proofs.put_cause_at.Tie as tie
@@ -36,7 +40,8 @@ put-at-requires-2 c κs = search needs
 
 -- src/lib.rt:80:1
 returns : tie.Need-returns
-returns c = ?
+unfolding causeText
+returns c = rw (c .enum-told .given .1) (written-none (now (c .before .before .before .before .before .args .out)) (omega arith))
 
 -- src/lib.rt:80:1
 same-length : tie.Need-same-length
@@ -44,7 +49,10 @@ same-length c = search needs
 
 -- src/lib.rt:80:1
 returns-2 : tie.Need-returns-2
-returns-2 c = ?
+unfolding causeText
+returns-2 c =
+    rw (c .before .before .before .before .before .before .before .before .before .before .before .before .before .before .before .cause .given .1)
+    (written-then (omega arith) (written-then (omega arith) (c .before .before .before .before .before .before .before .before .before .before .before .put-at .ensures) (c .before .before .before .before .before .before .before .describe-local .ensures)) (c .before .before .put-at2 .ensures))
 
 pub put-cause-at-spec : {M : Type 1} → statement M
 put-cause-at-spec =

@@ -1,3 +1,9 @@
+use Rattle.basics.proofs.Keys.{Unkeyed}
+use Rattle.basics.specs.Ascii.{ascii}
+use mathlib.Core.Path.{_≡_, refl}
+use mathlib.Core.List.{[], _∷_}
+use Prim.Native.Nat.{ℕ, zero, suc}
+use Rattle.message.specs.Message.{elementText}
 use borrow.Author.Needs.{needs}
 use Rattle.message.proofs.put_element_at.Statement.{statement}
 use Rattle.message.proofs.put_element_at.Tie as tie
@@ -75,7 +81,8 @@ same-length c = search needs
 
 -- src/lib.rt:11:1
 returns : tie.Need-returns
-returns c = ?
+unfolding elementText
+returns c = rw (c .before .before .before .before .before .match .keys1) (c .before .before .put-at .ensures)
 
 -- src/lib.rt:11:1
 same-length-2 : tie.Need-same-length-2
@@ -83,7 +90,8 @@ same-length-2 c = search needs
 
 -- src/lib.rt:11:1
 returns-2 : tie.Need-returns-2
-returns-2 c = ?
+unfolding elementText
+returns-2 c = rw (c .before .before .before .before .before .match .keys2) (c .before .before .put-at2 .ensures)
 
 -- src/lib.rt:11:1
 same-length-3 : tie.Need-same-length-3
@@ -91,7 +99,8 @@ same-length-3 c = search needs
 
 -- src/lib.rt:11:1
 returns-3 : tie.Need-returns-3
-returns-3 c = ?
+unfolding elementText
+returns-3 c = rw (c .before .before .before .before .before .match .keys3) (c .before .before .put-at3 .ensures)
 
 -- src/lib.rt:11:1
 same-length-4 : tie.Need-same-length-4
@@ -99,7 +108,8 @@ same-length-4 c = search needs
 
 -- src/lib.rt:11:1
 returns-4 : tie.Need-returns-4
-returns-4 c = ?
+unfolding elementText
+returns-4 c = rw (c .before .before .before .before .before .match .keys4) (c .before .before .put-at4 .ensures)
 
 -- src/lib.rt:11:1
 same-length-5 : tie.Need-same-length-5
@@ -107,7 +117,8 @@ same-length-5 c = search needs
 
 -- src/lib.rt:11:1
 returns-5 : tie.Need-returns-5
-returns-5 c = ?
+unfolding elementText
+returns-5 c = rw (c .before .before .before .before .before .match .keys5) (c .before .before .put-at5 .ensures)
 
 -- src/lib.rt:11:1
 same-length-6 : tie.Need-same-length-6
@@ -115,7 +126,8 @@ same-length-6 c = search needs
 
 -- src/lib.rt:11:1
 returns-6 : tie.Need-returns-6
-returns-6 c = ?
+unfolding elementText
+returns-6 c = rw (c .before .before .before .before .before .match .keys6) (c .before .before .put-at6 .ensures)
 
 -- src/lib.rt:11:1
 same-length-7 : tie.Need-same-length-7
@@ -123,15 +135,27 @@ same-length-7 c = search needs
 
 -- src/lib.rt:11:1
 returns-7 : tie.Need-returns-7
-returns-7 c = ?
+unfolding elementText
+returns-7 c = rw (c .before .before .before .before .before .match .keys7) (c .before .before .put-at7 .ensures)
 
 -- src/lib.rt:11:1
 same-length-8 : tie.Need-same-length-8
 same-length-8 c = search needs
 
+short-so : (k : ℕ) → Unkeyed ((6 ∷ []) ∷ (5 ∷ []) ∷ (4 ∷ []) ∷ (3 ∷ []) ∷ (2 ∷ []) ∷ (1 ∷ []) ∷ (0 ∷ []) ∷ []) k → elementText k ≡ ascii "short"
+unfolding elementText
+short-so zero rest = absurd (rest .0 .0 .0 .0 .0 .0 .1 refl)
+short-so (suc zero) rest = absurd (rest .0 .0 .0 .0 .0 .1 refl)
+short-so (suc (suc zero)) rest = absurd (rest .0 .0 .0 .0 .1 refl)
+short-so (suc (suc (suc zero))) rest = absurd (rest .0 .0 .0 .1 refl)
+short-so (suc (suc (suc (suc zero)))) rest = absurd (rest .0 .0 .1 refl)
+short-so (suc (suc (suc (suc (suc zero))))) rest = absurd (rest .0 .1 refl)
+short-so (suc (suc (suc (suc (suc (suc zero)))))) rest = absurd (rest .1 refl)
+short-so (suc (suc (suc (suc (suc (suc (suc k))))))) rest = refl
+
 -- src/lib.rt:11:1
 returns-8 : tie.Need-returns-8
-returns-8 c = ?
+returns-8 c = rw (short-so (c .before .before .before .before .before .before .before .args .element) (c .before .before .before .before .before .match .rest)) (c .before .before .put-at8 .ensures)
 
 pub put-element-at-spec : {M : Type 1} → statement M
 put-element-at-spec =

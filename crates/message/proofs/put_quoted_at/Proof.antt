@@ -1,3 +1,6 @@
+use Rattle.message.specs.Message.{quoted}
+use Rattle.text.proofs.Writing.{written-then}
+use native.Mathlib.Omega.{arith}
 use borrow.Author.Needs.{needs}
 use Rattle.message.proofs.put_quoted_at.Statement.{statement}
 use Rattle.message.proofs.put_quoted_at.Tie as tie
@@ -35,7 +38,10 @@ same-length c = search needs
 
 -- src/lib.rt:26:1
 returns : tie.Need-returns
-returns c = ?
+unfolding quoted
+returns c =
+    written-then (omega arith)
+    (written-then (omega arith) (written-then (omega arith) (c .before .before .before .before .before .before .before .before .before .before .before .before .before .before .before .before .put-at .ensures) (c .before .before .before .before .before .before .before .before .before .before .before .put-at2 .ensures)) (c .before .before .before .before .before .before .before .put-at3 .ensures)) (c .before .before .put-at4 .ensures)
 
 pub put-quoted-at-spec : {M : Type 1} → statement M
 put-quoted-at-spec =
