@@ -260,7 +260,8 @@ fn effect_at(code: &[u8], members: &[u8], count: usize, pc: usize) -> Effect
     }
 }
 
-fn clear(stack: &mut [u64])
+// Zeroes the lent cells.
+pub fn clear(stack: &mut [u64])
     ensures { λ r. ⌜ now (stack .exit) ≡ replicate (length (now (stack .entry))) 0 ⌝ }
 {
     let mut i = 0;

@@ -52,3 +52,8 @@ unfoldable pub causeText : Slot → List ℕ → ℕ → List ℕ → Bool → L
 causeText Other records count signature instance = []
 causeText (Loaded load local) records count signature instance =
     ascii " because \"" ++ localName records count signature instance local load ++ ascii "\" is null"
+
+-- the action, and the cause where a load is known
+unfoldable pub messageText : List ℕ → ℕ → Action → Slot → List ℕ → ℕ → List ℕ → Bool → List ℕ
+messageText members memberCount action cause records recordCount signature instance =
+    actionText members memberCount action ++ causeText cause records recordCount signature instance

@@ -6,7 +6,7 @@ use text::put_at;
 ghost use mathlib.Core.Path.{_≡_};
 ghost use mathlib.Core.List.{_++_};
 ghost use Rattle.text.specs.Writing.{Written};
-ghost use Rattle.message.specs.Message.{elementText, quoted, methodText, invokeText, arrayText, actionText, causeText};
+ghost use Rattle.message.specs.Message.{elementText, quoted, methodText, invokeText, arrayText, actionText, causeText, messageText};
 
 fn put_element_at(out: &mut [u8], at: usize, element: usize) -> usize
     ensures { λ r. ⌜ Written at (elementText element) (now (out .entry)) r (now (out .exit)) ⌝ }
@@ -60,7 +60,7 @@ fn put_invoke_at(out: &mut [u8], at: usize, texts: &[u8]) -> usize
 }
 
 // Writes the action that failed.
-pub fn put_action_at(out: &mut [u8], at: usize, members: &[u8], count: usize, action: Action) -> usize
+fn put_action_at(out: &mut [u8], at: usize, members: &[u8], count: usize, action: Action) -> usize
     ensures { λ r. ⌜ Written at (actionText (now (members .entry)) count action) (now (out .entry)) r (now (out .exit)) ⌝ }
 {
     match action {
@@ -83,7 +83,7 @@ pub fn put_action_at(out: &mut [u8], at: usize, members: &[u8], count: usize, ac
 }
 
 // Writes the cause, where a load is known.
-pub fn put_cause_at(out: &mut [u8], at: usize, cause: Slot, records: &[u8], count: usize, signature: &[u8], instance: bool) -> usize
+fn put_cause_at(out: &mut [u8], at: usize, cause: Slot, records: &[u8], count: usize, signature: &[u8], instance: bool) -> usize
     ensures { λ r. ⌜ Written at (causeText cause (now (records .entry)) count (now (signature .entry)) instance) (now (out .entry)) r (now (out .exit)) ⌝ }
 {
     match cause {
@@ -94,4 +94,23 @@ pub fn put_cause_at(out: &mut [u8], at: usize, cause: Slot, records: &[u8], coun
             put_at(out, end, b"\" is null")
         }
     }
+}
+
+// Writes the message from a place on. Answers the place after it.
+pub fn put_message_at(
+    out: &mut [u8],
+    at: usize,
+    members: &[u8],
+    member_count: usize,
+    action: Action,
+    cause: Slot,
+    records: &[u8],
+    record_count: usize,
+    signature: &[u8],
+    instance: bool,
+) -> usize
+    ensures { λ r. ⌜ Written at (messageText (now (members .entry)) «member_count» action cause (now (records .entry)) «record_count» (now (signature .entry)) instance) (now (out .entry)) r (now (out .exit)) ⌝ }
+{
+    let next = put_action_at(out, at, members, member_count, action);
+    put_cause_at(out, next, cause, records, record_count, signature, instance)
 }
