@@ -102,17 +102,32 @@ module _ (code members : List ℕ) (count fault : ℕ) where
   pub loads-array : (op : ℕ) → 46 ≤ op → op ≤ 53 → Failed (LoadArray (op - 46)) 1 ≡ decodedAs op code members count fault
   unfolding decodedAs ruleOf actionOf
   loads-array op l u =
-      rw (ne-eqb op 180 (λ e. omega arith), ne-eqb op 181 (λ e. omega arith), ne-eqb op 182 (λ e. omega arith),
-      ne-eqb op 183 (λ e. omega arith), ne-eqb op 185 (λ e. omega arith), le-leb 46 op l, le-leb op 53 u)
+      rw (
+        ne-eqb op 180 (λ e. omega arith),
+        ne-eqb op 181 (λ e. omega arith),
+        ne-eqb op 182 (λ e. omega arith),
+        ne-eqb op 183 (λ e. omega arith),
+        ne-eqb op 185 (λ e. omega arith),
+        le-leb 46 op l,
+        le-leb op 53 u,
+      )
 
   pub stores-array :
       (op : ℕ) → 79 ≤ op → op ≤ 86 →
       Failed (StoreArray (op - 79)) (pick (oneOf (80 ∷ 82 ∷ []) op) 3 2) ≡ decodedAs op code members count fault
   unfolding decodedAs ruleOf actionOf
   stores-array op l u =
-      rw (ne-eqb op 180 (λ e. omega arith), ne-eqb op 181 (λ e. omega arith), ne-eqb op 182 (λ e. omega arith),
-      ne-eqb op 183 (λ e. omega arith), ne-eqb op 185 (λ e. omega arith), lt-leb op 53 (omega arith), le-leb 46 op (omega arith),
-      le-leb 79 op l, le-leb op 86 u)
+      rw (
+        ne-eqb op 180 (λ e. omega arith),
+        ne-eqb op 181 (λ e. omega arith),
+        ne-eqb op 182 (λ e. omega arith),
+        ne-eqb op 183 (λ e. omega arith),
+        ne-eqb op 185 (λ e. omega arith),
+        lt-leb op 53 (omega arith),
+        le-leb 46 op (omega arith),
+        le-leb 79 op l,
+        le-leb op 86 u,
+      )
       (by-test (oneOf (80 ∷ 82 ∷ []) op))
     where
       by-test :

@@ -84,7 +84,9 @@ fn invoke_fault(code: &[u8], members: &[u8], count: usize, fault: usize) -> Faul
     if same(casefile::name_of(texts), b"<init>") {
         return Fault::Nothing;
     }
-    let Params::Read { slots, end: _ } = descriptor::parse_method_params(casefile::descriptor_of(texts)) else {
+    let Params::Read { slots, end: _ } = descriptor::parse_method_params(casefile::descriptor_of(
+        texts,
+    )) else {
         return Fault::Nothing;
     };
     Fault::Failed {

@@ -72,7 +72,11 @@ fn put_action_at(out: &mut [u8], at: usize, members: &[u8], count: usize, action
             let texts = casefile::find_member(members, count, index, 0);
             put_quoted_at(out, at, b"Cannot assign field ", casefile::name_of(texts))
         }
-        Action::Invoke { index } => put_invoke_at(out, at, casefile::find_member(members, count, index, 1)),
+        Action::Invoke { index } => put_invoke_at(
+            out,
+            at,
+            casefile::find_member(members, count, index, 1),
+        ),
         Action::LoadArray { element } => put_array_at(out, at, b"Cannot load from ", element),
         Action::StoreArray { element } => put_array_at(out, at, b"Cannot store to ", element),
         Action::ReadLength => put_at(out, at, b"Cannot read the array length"),
@@ -83,14 +87,31 @@ fn put_action_at(out: &mut [u8], at: usize, members: &[u8], count: usize, action
 }
 
 // Writes the cause, where a load is known.
-fn put_cause_at(out: &mut [u8], at: usize, cause: Slot, records: &[u8], count: usize, signature: &[u8], instance: bool) -> usize
+fn put_cause_at(
+    out: &mut [u8],
+    at: usize,
+    cause: Slot,
+    records: &[u8],
+    count: usize,
+    signature: &[u8],
+    instance: bool,
+) -> usize
     ensures { λ r. ⌜ Written at (causeText cause (now (records .entry)) count (now (signature .entry)) instance) (now (out .entry)) r (now (out .exit)) ⌝ }
 {
     match cause {
         Slot::Other => at,
         Slot::Loaded { load, local } => {
             let start = put_at(out, at, b" because \"");
-            let end = locals::describe_local(out, start, records, count, signature, instance, local, load);
+            let end = locals::describe_local(
+                out,
+                start,
+                records,
+                count,
+                signature,
+                instance,
+                local,
+                load,
+            );
             put_at(out, end, b"\" is null")
         }
     }

@@ -1,1 +1,4 @@
+pub mod Inside
+pub mod Reporting
 pub mod Tracing
+pub mod Writing

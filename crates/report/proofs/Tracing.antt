@@ -63,7 +63,7 @@ module _ (scan depth room : ℕ) where
     slot-is : (k : ℕ) → k < length (f .slots) → getD left k 0 ≡ getD (f .slots) k 0
     slot-is k below =
         let start : take (length (f .slots)) (shown room (f .slots)) ≡ f .slots =
-            take-at (f .slots) (replicate (room - length (f .slots)) 0) (length (f .slots)) refl in
+        take-at (f .slots) (replicate (room - length (f .slots)) 0) (length (f .slots)) refl in
         ap (λ (l : List ℕ). getD l k 0) left-is ∙ sym (getD-take (length (f .slots)) (shown room (f .slots)) k 0 below)
         ∙ ap (λ (l : List ℕ). getD l k 0) start
 

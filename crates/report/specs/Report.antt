@@ -37,6 +37,20 @@ unfoldable pub messageOf : Parts → Action → Slot → List ℕ
 messageOf p action cause =
     messageText (p .members) (p .memberCount) action cause (p .records) (p .recordCount) (p .signature) (isInstance (p .flags))
 
+-- parts in the order of the code's parameters
+abbrev pub partsBy : ℕ → ℕ → List ℕ → List ℕ → List ℕ → ℕ → List ℕ → ℕ → Parts
+partsBy flags fault code signature members memberCount records recordCount =
+    record {
+      flags = flags;
+      fault = fault;
+      code = code;
+      signature = signature;
+      memberCount = memberCount;
+      members = members;
+      recordCount = recordCount;
+      records = records;
+    }
+
 -- what a report has to say, before the output's room is judged: nothing, that the stack lacks room at an index, or a message
 -- with its kind, scan count and block count
 pub data Said : Type 0 where

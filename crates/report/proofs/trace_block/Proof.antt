@@ -77,8 +77,7 @@ returns-3 c =
     let walked = blockWalk (now (a .code)) (now (a .members)) (a .count) (a .leader) (a .fault) (length (now (a .stack))) in
     let room : ℕ = length (now (a .stack)) in
     let done = tracing.finished (a .scan) (a .depth) room walked _ _ (sym (c .before .before .before .before .before .before .before .height .given .1) ∙ c .before .before .before .before .before .before .before .before .before .before .before .simulate-block .ensures .0) in
-    let size : length (c .before .before .before .before .before .before .before .before .before .before .before .simulate-block .last .1 .1 .1 .1 .1 .0) ≡ room = omega arith in
-    (
+    let size : length (c .before .before .before .before .before .before .before .before .before .before .before .simulate-block .last .1 .1 .1 .1 .1 .0) ≡ room = omega arith in (
       tracing.traces (a .scan) (a .depth) room walked _ _ done _ (c .before .before .before .before .before .before .before .before .before .before .before .simulate-block .ensures .1) _ (c .before .before .before .before .slot-from .ensures),
       c .before .before .clear .ensures ∙ ap (λ (k : ℕ). replicate k 0) size,
     )

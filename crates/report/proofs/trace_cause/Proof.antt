@@ -41,10 +41,9 @@ returns : tie.Need-returns
 unfolding traced
 returns c =
     let a = c .before .before .before .before .before .before .before .before .before .before .before .args in
-    let told = sym (c .before .before .before .before .before .before .before .block-leader .ensures) ∙ c .before .before .before .before .before .leader .given .1 in
-    (
+    let told = sym (c .before .before .before .before .before .before .before .block-leader .ensures) ∙ c .before .before .before .before .before .leader .given .1 in (
       c .before .before .trace-block .ensures .0
-      ∙ sym (ap (λ (s : Scan). tracedBy (now (a .code)) (now (a .members)) (a .count) (a .fault) (a .depth) (length (now (a .stack))) s) told),
+          ∙ sym (ap (λ (s : Scan). tracedBy (now (a .code)) (now (a .members)) (a .count) (a .fault) (a .depth) (length (now (a .stack))) s) told),
       c .before .before .trace-block .ensures .1,
     )
 
@@ -57,8 +56,7 @@ returns-2 : tie.Need-returns-2
 unfolding traced
 returns-2 c =
     let a = c .before .before .before .before .before .before .before .before .before .before .before .args in
-    let told = sym (c .before .before .before .before .before .before .before .block-leader .ensures) ∙ c .before .before .before .before .before .scan .given .1 in
-    (
+    let told = sym (c .before .before .before .before .before .before .before .block-leader .ensures) ∙ c .before .before .before .before .before .scan .given .1 in (
       sym (ap (λ (s : Scan). tracedBy (now (a .code)) (now (a .members)) (a .count) (a .fault) (a .depth) (length (now (a .stack))) s) told),
       c .before .before .clear .ensures,
     )
