@@ -1,0 +1,90 @@
+// Reads one case from standard input and prints one line: the answer, the kind, the two counts, and the message or the number
+// that the answer carries.
+use libc::STDERR_FILENO;
+use libc::STDIN_FILENO;
+use libc::STDOUT_FILENO;
+use report::Report;
+
+// What reading the input answers.
+enum Input {
+    Case(usize),
+    TooLong,
+    Unreadable,
+}
+
+// Whether the input goes on behind a full buffer.
+fn after_full(size: usize) -> Input {
+    let mut more = [0u8; 1];
+    let got = libc::read(STDIN_FILENO, &mut more);
+    if got < 0 {
+        return Input::Unreadable;
+    }
+    if got > 0 {
+        return Input::TooLong;
+    }
+    Input::Case(size)
+}
+
+// Reads until the input ends, also where a pipe gives it in short pieces. The case is at the start of the buffer.
+fn read_input(buffer: &mut [u8]) -> Input {
+    let mut done: usize = 0;
+    while done < buffer.len() {
+        let got = libc::read(STDIN_FILENO, &mut buffer[done..]);
+        if got < 0 {
+            return Input::Unreadable;
+        }
+        let n = text::shorter(io::count(got, buffer), buffer.len() - done);
+        if n == 0 {
+            return Input::Case(done);
+        }
+        done += n;
+    }
+    after_full(done)
+}
+
+fn say_start(bytes: &[u8], n: usize) {
+    if n <= bytes.len() {
+        io::write_all(STDOUT_FILENO, &bytes[..n]);
+    }
+}
+
+// Prints the line of an answer, whose message stands at the start of the output.
+fn print_line(answer: Report, output: &[u8]) {
+    let mut head = [0u8; 128];
+    let end = line::put_head_at(&mut head, 0, answer);
+    say_start(&head, end);
+    if let Report::Message {
+        length,
+        kind: _,
+        scan: _,
+        block: _,
+    } = answer {
+        say_start(output, length);
+    }
+    io::write_all(STDOUT_FILENO, b"\n");
+}
+
+fn report_case(case: &[u8]) {
+    let mut output = [0u8; 16384];
+    let mut stack = [0u64; 4096];
+    let answer = report::build_message(case, &mut stack, &mut output);
+    print_line(answer, &output);
+}
+
+// Reports on the case at the start of the buffer.
+fn report_start(buffer: &[u8], size: usize) {
+    if size <= buffer.len() {
+        report_case(&buffer[..size]);
+    }
+}
+
+fn main() {
+    let mut buffer = [0u8; 32768];
+    match read_input(&mut buffer) {
+        Input::Case(size) => report_start(&buffer, size),
+        Input::TooLong => print_line(Report::TooLong, b""),
+        Input::Unreadable => {
+            io::write_all(STDERR_FILENO, b"npe: standard input cannot be read\n");
+        }
+    }
+}
