@@ -10,9 +10,9 @@ use lib.ListN.{getD, drop}
 use borrow.Author.Tests.{ne-eqb}
 use types.Run.{OneOf}
 use Rattle.basics.specs.Choice.{pick, oneOf, sameList}
+use Rattle.effects.specs.Rows.{Row, unmodelled, opaque, aload, aloadOf, carries, keeps, gets, calls, rowOf}
 use Rattle.basics.proofs.Every.{every, every-from}
 use Rattle.basics.proofs.Same.{are-same}
-use Rattle.effects.specs.Rows.{Row, unmodelled, opaque, aload, aloadOf, carries, keeps, gets, calls, rowOf}
 
 abbrev number : Row → List ℕ
 number unmodelled = 0 ∷ []
@@ -54,7 +54,8 @@ known row op t = sym (back row) ∙ ap numbered (are-same (number row) (number (
 
 -- n opcodes from a on have the row that a rule gives them
 pub all-have :
-    (row : ℕ → Row) (a n : ℕ) → T (every (λ k. is (row (a + k)) (a + k)) n) → (op : ℕ) → a ≤ op → op < a + n → row op ≡ rowOf op
+    (row : ℕ → Row) (a n : ℕ) → T (every (λ k. is (row (a + k)) (a + k)) n) →
+    (op : ℕ) → a ≤ op → op < a + n → row op ≡ rowOf op
 all-have row a n t op from below = known (row op) op (every-from (λ k. is (row k) k) a n t op from below)
 
 -- ---- the same where no arm of a match has the opcode as a key; the last arm comes first here
