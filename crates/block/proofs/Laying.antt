@@ -30,6 +30,23 @@ pub shows :
 shows room stack slots start rest =
     sym (take-append-drop (length slots) stack) ∙ ap₂ (λ (a b : List ℕ). a ++ b) start rest
 
+-- ---- the cell of a load
+
+pub held-so :
+    (pc local v : ℕ) → packed pc local ≡ Held v → (leb (cellOf pc local) (2 ^ 64 - 1) ≡ true) × (v ≡ cellOf pc local)
+held-so pc local v e = by-test (leb (cellOf pc local) (2 ^ 64 - 1)) (cellOf pc local) e
+  where
+    by-test : (b : Bool) (cell : ℕ) → pick b (Held cell) TooLarge ≡ Held v → (b ≡ true) × (v ≡ cell)
+    by-test true cell e = let same : cell ≡ v = cc in (refl, sym same)
+    by-test false cell e = let z : _≡_ {A = ℕ} 0 1 = cc in absurd (omega arith)
+
+too-large : (pc local : ℕ) → packed pc local ≡ TooLarge → leb (cellOf pc local) (2 ^ 64 - 1) ≡ false
+too-large pc local e = by-test (leb (cellOf pc local) (2 ^ 64 - 1)) (cellOf pc local) e
+  where
+    by-test : (b : Bool) (cell : ℕ) → pick b (Held cell) TooLarge ≡ TooLarge → b ≡ false
+    by-test true cell e = let z : _≡_ {A = ℕ} 0 1 = cc in absurd (omega arith)
+    by-test false cell e = refl
+
 -- ---- an outcome in the cells
 
 module _ (stack : List ℕ) (outcome : Made ℕ) (slots : List ℕ) (is : outcome ≡ made slots) where
@@ -121,20 +138,6 @@ module _ (c : List ℕ) (h : ℕ) (clean : Clean c h) where
       ∙ ap (λ (k : ℕ). drop k c) one ∙ zeros 1 ∙ ap (λ (k : ℕ). replicate (length c - k) 0) (sym (top-length v)))
 
   -- ---- a load
-
-  held-so : (pc local v : ℕ) → packed pc local ≡ Held v → (leb (cellOf pc local) (2 ^ 64 - 1) ≡ true) × (v ≡ cellOf pc local)
-  held-so pc local v e = by-test (leb (cellOf pc local) (2 ^ 64 - 1)) (cellOf pc local) e
-    where
-      by-test : (b : Bool) (cell : ℕ) → pick b (Held cell) TooLarge ≡ Held v → (b ≡ true) × (v ≡ cell)
-      by-test true cell e = let same : cell ≡ v = cc in (refl, sym same)
-      by-test false cell e = let z : _≡_ {A = ℕ} 0 1 = cc in absurd (omega arith)
-
-  too-large : (pc local : ℕ) → packed pc local ≡ TooLarge → leb (cellOf pc local) (2 ^ 64 - 1) ≡ false
-  too-large pc local e = by-test (leb (cellOf pc local) (2 ^ 64 - 1)) (cellOf pc local) e
-    where
-      by-test : (b : Bool) (cell : ℕ) → pick b (Held cell) TooLarge ≡ TooLarge → b ≡ false
-      by-test true cell e = let z : _≡_ {A = ℕ} 0 1 = cc in absurd (omega arith)
-      by-test false cell e = refl
 
   none-taken : take (h - 0) c ≡ slots
   none-taken = let all : h - 0 ≡ h = omega arith in ap (λ (k : ℕ). take k c) all

@@ -1,3 +1,4 @@
+pub mod Answers
 pub mod Effects
 pub mod Laying
 pub mod Looping
