@@ -1,8 +1,8 @@
-// Prints what the walk answers and the cells that it leaves: one walk for each opcode, and some for each way to fail, to lack
+// Prints what the walk answers and the cells that it leaves: a walk for each opcode, and some for each way to fail, to lack
 // room and to carry loads along. A cell is printed as 0, or as its local and the index of its load.
 //
-// The stored lines were made by the Rust's own simulate_block, given the same codes and members. It tells neither counts nor
-// heights on the way: these are from its answers for each later fault, the next one that it reaches being the next instruction.
+// The stored lines were made by the Rust's own simulate_block, given the same codes and members. It tells neither counts
+// nor heights on the way: these are from its answers for each later fault, the next that it reaches ending an instruction.
 use block::Slot;
 use block::Walk;
 use libc::STDOUT_FILENO;
