@@ -9,8 +9,8 @@ use lib.Dec.{eqb}
 use lib.ListN.{getD}
 use borrow.Author.Tests.{ne-eqb, eqb-true, eqb-false}
 use Rattle.basics.specs.Choice.{pick}
-use Rattle.block.specs.Answers.{NumbersTell, LoadUnpacks, PackedUnpacks, CellOfUnpacked, ZeroIsOther, OtherIsZero}
-use Rattle.block.specs.Answers.{NeverZero}
+use Rattle.block.specs.Answers.{NumberedInjective, LoadUnpacks, PackedUnpacks, CellOfUnpacked, ZeroIsOther}
+use Rattle.block.specs.Answers.{OtherIsZero, NeverZero}
 use Rattle.block.specs.Cells.{unpacked}
 use Rattle.block.specs.Room.{numbered}
 use Rattle.block.specs.Walk.{cellOf}
@@ -33,8 +33,8 @@ back (Done height count) = refl
 back (Failed count) = refl
 back (NoRoom index) = refl
 
-pub numbers-tell : NumbersTell
-numbers-tell one other e = sym (back one) ∙ ap answered e ∙ back other
+pub numbered-injective : NumberedInjective
+numbered-injective one other e = sym (back one) ∙ ap answered e ∙ back other
 
 -- ---- cells
 

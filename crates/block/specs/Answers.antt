@@ -11,8 +11,8 @@ use Rattle.block.specs.declared.Slot.the-variants.{Other, Loaded}
 use Rattle.block.specs.declared.Walk.{Walk}
 
 -- the numbers tell the answer
-abbrev pub NumbersTell : Type 0
-NumbersTell = (one other : Walk) → numbered one ≡ numbered other → one ≡ other
+abbrev pub NumberedInjective : Type 0
+NumberedInjective = (one other : Walk) → numbered one ≡ numbered other → one ≡ other
 
 -- ---- cells, by what `unpack` answers
 
