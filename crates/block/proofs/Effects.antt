@@ -2,17 +2,16 @@
 -- Assumes nothing.
 use Prim.Native.Nat.{ℕ, _+_, _≤_, _<_}
 use native.Mathlib.Omega.{arith}
-use mathlib.Core.Path.{_≡_, refl, _∙_, sym, ap}
-use mathlib.Core.List.{List, [], _∷_}
-use lib.Dec.{ltb}
+use mathlib.Core.Path.{_≡_, _∙_, sym, ap}
+use mathlib.Core.List.{List}
 use lib.ListN.{length}
 use borrow.Author.Tests.{lt-ltb, le-ltb}
 use Rattle.basics.specs.Bytes.{byteAt, u16At}
-use Rattle.casefile.specs.Member.{memberFound}
-use Rattle.casefile.specs.Text.{descriptorOf}
 use Rattle.descriptor.specs.Readers.{parameters, returnSlots, fieldSlots}
 use Rattle.descriptor.specs.declared.Params.the-variants.{Read, Unreadable as NoParams}
 use Rattle.descriptor.specs.declared.Slots.the-variants.{Slots as SlotsOf, Unreadable as NoSlots}
+use Rattle.casefile.specs.Member.{memberFound}
+use Rattle.casefile.specs.Text.{descriptorOf}
 use Rattle.effects.specs.Lookup.{Lookup, lookupIn}
 use Rattle.effects.proofs.Known.{known-none, known-some}
 use Rattle.effects.specs.Rows.{Row, aload, gets, calls, rowOf}
@@ -24,24 +23,32 @@ module _ (code : List ℕ) (pc : ℕ) where
   -- by the row that the code found
   pub of-row :
       (lookup : Lookup) (answer row : CodeRow) (effect : Effect) → rowFrom answer ≡ rowOf (byteAt code pc) → answer ≡ row →
-      effect ≡ bare (effectBy lookup code pc (rowFrom row)) → effect ≡ bare (effectBy lookup code pc (rowOf (byteAt code pc)))
+      effect ≡ bare (effectBy lookup code pc (rowFrom row)) →
+      effect ≡ bare (effectBy lookup code pc (rowOf (byteAt code pc)))
   of-row lookup answer row effect found same e =
       e ∙ ap (λ (r : Row). bare (effectBy lookup code pc r)) (ap rowFrom (sym same) ∙ found)
 
   pub load-cut : (lookup : Lookup) → length code ≤ pc + 1 → fails notModelled ≡ bare (effectBy lookup code pc aload)
   load-cut lookup l = rw (le-ltb (pc + 1) (length code) l)
 
-  pub loads : (lookup : Lookup) → pc + 1 < length code → does 0 (load (byteAt code (pc + 1))) ≡ bare (effectBy lookup code pc aload)
+  pub loads :
+      (lookup : Lookup) → pc + 1 < length code →
+      does 0 (load (byteAt code (pc + 1))) ≡ bare (effectBy lookup code pc aload)
   loads lookup l = rw (lt-ltb (pc + 1) (length code) l)
 
-  pub get-cut : (lookup : Lookup) (takes : ℕ) → length code ≤ pc + 2 → fails notModelled ≡ bare (effectBy lookup code pc (gets takes))
+  pub get-cut :
+      (lookup : Lookup) (takes : ℕ) → length code ≤ pc + 2 →
+      fails notModelled ≡ bare (effectBy lookup code pc (gets takes))
   get-cut lookup takes l = rw (le-ltb (pc + 2) (length code) l)
 
-  pub call-cut : (lookup : Lookup) (takes : ℕ) → length code ≤ pc + 2 → fails notModelled ≡ bare (effectBy lookup code pc (calls takes))
+  pub call-cut :
+      (lookup : Lookup) (takes : ℕ) → length code ≤ pc + 2 →
+      fails notModelled ≡ bare (effectBy lookup code pc (calls takes))
   call-cut lookup takes l = rw (le-ltb (pc + 2) (length code) l)
 
   -- texts: the part that the lookup hands back
-  module _ (members : List ℕ) (count takes index : ℕ) (texts : List ℕ) (whole : pc + 2 < length code) (cites : index ≡ u16At code (pc + 1)) where
+  module _ (members : List ℕ) (count takes index : ℕ) (texts : List ℕ)
+      (whole : pc + 2 < length code) (cites : index ≡ u16At code (pc + 1)) where
     abbrev Gets : Effect → Type 0
     Gets effect = effect ≡ bare (effectBy (lookupIn members count) code pc (gets takes))
 
@@ -76,7 +83,7 @@ module _ (code : List ℕ) (pc : ℕ) where
       call-endless args end p r = rw (lt-ltb (pc + 2) (length code) whole, ← cites, ← found, known-some texts some, p, r)
 
       pub called :
-          (args end gives : ℕ) → parameters (descriptorOf texts) ≡ Read args end → returnSlots (descriptorOf texts) ≡ SlotsOf gives →
-          Calls (does (takes + args) (blanks gives))
+          (args end gives : ℕ) → parameters (descriptorOf texts) ≡ Read args end →
+          returnSlots (descriptorOf texts) ≡ SlotsOf gives → Calls (does (takes + args) (blanks gives))
       unfolding lookupIn
       called args end gives p r = rw (lt-ltb (pc + 2) (length code) whole, ← cites, ← found, known-some texts some, p, r)

@@ -6,13 +6,15 @@ use mathlib.Core.Path.{_≡_, refl, _∙_, sym, ap, ap₂}
 use mathlib.Core.Bool.{Bool, true, false}
 use mathlib.Core.List.{List, [], _∷_, _++_, append-assoc}
 use lib.Dec.{leb}
-use lib.ListN.{length, getD, take, drop, set, replicate, length-append, length-replicate, length-set, take-append-drop, replicate-append-replicate}
-use lib.Seq.{length-take-le, take-take, take-suc, drop-cons, getD-take, getD-set-other, drop-append-add, drop-at, take-at, set-at, drop-set-lt, take-set-lt, take-suc-set}
+use lib.ListN.{length, getD, take, drop, set, replicate, length-append, length-replicate, length-set, take-append-drop}
+use lib.ListN.{replicate-append-replicate}
+use lib.Seq.{length-take-le, take-take, take-suc, drop-cons, getD-take, getD-set-other, drop-append-add, take-at, set-at}
+use lib.Seq.{drop-set-lt, take-set-lt, take-suc-set}
 use borrow.Author.Tests.{le-leb, lt-leb}
 use Rattle.basics.specs.Choice.{pick}
 use Rattle.block.specs.Cells.{packed, Clean, Laid, dupPlaces, dup2Places, swapPlaces}
 use Rattle.block.specs.Room.{shown}
-use Rattle.block.specs.Walk.{cells, cellOf, Push, blanks, load, carried, does, refused, Made, made, placed, pushed, applied, tooLarge}
+use Rattle.block.specs.Walk.{cells, cellOf, Push, load, carried, does, refused, Made, made, pushed, applied, tooLarge}
 use Rattle.block.specs.declared.Cell.the-variants.{Held, TooLarge}
 use Rattle.block.specs.declared.Height.the-variants.{Refused, Over, High}
 
@@ -28,6 +30,23 @@ pub shows :
 shows room stack slots start rest =
     sym (take-append-drop (length slots) stack) ∙ ap₂ (λ (a b : List ℕ). a ++ b) start rest
 
+-- ---- the cell of a load
+
+pub held-so :
+    (pc local v : ℕ) → packed pc local ≡ Held v → (leb (cellOf pc local) (2 ^ 64 - 1) ≡ true) × (v ≡ cellOf pc local)
+held-so pc local v e = by-test (leb (cellOf pc local) (2 ^ 64 - 1)) (cellOf pc local) e
+  where
+    by-test : (b : Bool) (cell : ℕ) → pick b (Held cell) TooLarge ≡ Held v → (b ≡ true) × (v ≡ cell)
+    by-test true cell e = let same : cell ≡ v = cc in (refl, sym same)
+    by-test false cell e = let z : _≡_ {A = ℕ} 0 1 = cc in absurd (omega arith)
+
+too-large : (pc local : ℕ) → packed pc local ≡ TooLarge → leb (cellOf pc local) (2 ^ 64 - 1) ≡ false
+too-large pc local e = by-test (leb (cellOf pc local) (2 ^ 64 - 1)) (cellOf pc local) e
+  where
+    by-test : (b : Bool) (cell : ℕ) → pick b (Held cell) TooLarge ≡ TooLarge → b ≡ false
+    by-test true cell e = let z : _≡_ {A = ℕ} 0 1 = cc in absurd (omega arith)
+    by-test false cell e = refl
+
 -- ---- an outcome in the cells
 
 module _ (stack : List ℕ) (outcome : Made ℕ) (slots : List ℕ) (is : outcome ≡ made slots) where
@@ -37,8 +56,8 @@ module _ (stack : List ℕ) (outcome : Made ℕ) (slots : List ℕ) (is : outcom
       rw is (record { answers = rw test; leaves = rw test })
 
   pub laid-high :
-      (height : ℕ) (left : List ℕ) → height ≡ length slots → length slots ≤ length stack → left ≡ shown (length stack) slots →
-      Laid stack (High height) left outcome
+      (height : ℕ) (left : List ℕ) → height ≡ length slots → length slots ≤ length stack →
+      left ≡ shown (length stack) slots → Laid stack (High height) left outcome
   laid-high height left high fits shown-so =
       let test : leb (length slots) (length stack) ≡ true = le-leb (length slots) (length stack) fits in
       rw is (record { answers = rw test (ap High high); leaves = rw test shown-so })
@@ -82,22 +101,24 @@ module _ (c : List ℕ) (h : ℕ) (clean : Clean c h) where
 
   pub blank-length : (takes gives : ℕ) → length (take (h - takes) c ++ replicate gives 0) ≡ h - takes + gives
   blank-length takes gives =
-      omega (arith, length-append (take (h - takes) c) (replicate gives 0), kept-length takes, length-replicate {A = ℕ} gives 0)
+      omega
+      (arith, length-append (take (h - takes) c) (replicate gives 0), kept-length takes, length-replicate {A = ℕ} gives 0)
 
   -- the taken cells cleared
   pub blank-shown :
       (takes gives : ℕ) → takes ≤ h → h - takes + gives ≤ length c →
       take (h - takes) c ++ (replicate takes 0 ++ drop h c) ≡ shown (length c) (take (h - takes) c ++ replicate gives 0)
   blank-shown takes gives l fits =
-      let none : drop h c ≡ replicate (length c - h) 0 = ap (λ (k : ℕ). drop k c) plus ∙ zeros 0 ∙ ap (λ (k : ℕ). replicate (length c - k) 0) (sym plus) in
-      let all : takes + (length c - h) ≡ gives + (length c - length (take (h - takes) c ++ replicate gives 0)) =
-      omega (arith, blank-length takes gives, clean .high) in
+      let none : drop h c ≡ replicate (length c - h) 0 =
+      ap (λ (k : ℕ). drop k c) plus ∙ zeros 0 ∙ ap (λ (k : ℕ). replicate (length c - k) 0) (sym plus) in
+      let left : ℕ = length c - length (take (h - takes) c ++ replicate gives 0) in
+      let all : takes + (length c - h) ≡ gives + left = omega (arith, blank-length takes gives, clean .high) in
       ap (λ (l : List ℕ). take (h - takes) c ++ l)
       (ap (λ (l : List ℕ). replicate takes 0 ++ l) none
       ∙ replicate-append-replicate takes (length c - h) 0
       ∙ ap (λ (k : ℕ). replicate k 0) all
-      ∙ sym (replicate-append-replicate gives (length c - length (take (h - takes) c ++ replicate gives 0)) 0))
-      ∙ sym (append-assoc (take (h - takes) c) (replicate gives 0) (replicate (length c - length (take (h - takes) c ++ replicate gives 0)) 0))
+      ∙ sym (replicate-append-replicate gives left 0))
+      ∙ sym (append-assoc (take (h - takes) c) (replicate gives 0) (replicate left 0))
     where
       plus : h ≡ h + 0
       plus = omega arith
@@ -118,43 +139,33 @@ module _ (c : List ℕ) (h : ℕ) (clean : Clean c h) where
 
   -- ---- a load
 
-  held-so : (pc local v : ℕ) → packed pc local ≡ Held v → (leb (cellOf pc local) (2 ^ 64 - 1) ≡ true) × (v ≡ cellOf pc local)
-  held-so pc local v e = by-test (leb (cellOf pc local) (2 ^ 64 - 1)) (cellOf pc local) e
-    where
-      by-test : (b : Bool) (cell : ℕ) → pick b (Held cell) TooLarge ≡ Held v → (b ≡ true) × (v ≡ cell)
-      by-test true cell e = let same : cell ≡ v = cc in (refl, sym same)
-      by-test false cell e = let z : _≡_ {A = ℕ} 0 1 = cc in absurd (omega arith)
-
-  too-large : (pc local : ℕ) → packed pc local ≡ TooLarge → leb (cellOf pc local) (2 ^ 64 - 1) ≡ false
-  too-large pc local e = by-test (leb (cellOf pc local) (2 ^ 64 - 1)) (cellOf pc local) e
-    where
-      by-test : (b : Bool) (cell : ℕ) → pick b (Held cell) TooLarge ≡ TooLarge → b ≡ false
-      by-test true cell e = let z : _≡_ {A = ℕ} 0 1 = cc in absurd (omega arith)
-      by-test false cell e = refl
-
   none-taken : take (h - 0) c ≡ slots
   none-taken = let all : h - 0 ≡ h = omega arith in ap (λ (k : ℕ). take k c) all
 
-  load-is : (pc local v : ℕ) → packed pc local ≡ Held v → applied cells pc (does 0 (load local)) slots ≡ made (slots ++ v ∷ [])
+  load-is :
+      (pc local v : ℕ) → packed pc local ≡ Held v → applied cells pc (does 0 (load local)) slots ≡ made (slots ++ v ∷ [])
   load-is pc local v e =
       let h = held-so pc local v e in
       enough pc 0 (load local) (omega arith) ∙ rw (h .0, none-taken, h .1)
 
-  pub load-refused : (pc local : ℕ) → packed pc local ≡ TooLarge → Laid c Refused c (applied cells pc (does 0 (load local)) slots)
+  pub load-refused :
+      (pc local : ℕ) → packed pc local ≡ TooLarge → Laid c Refused c (applied cells pc (does 0 (load local)) slots)
   load-refused pc local e =
       let is : applied cells pc (does 0 (load local)) slots ≡ refused tooLarge =
       enough pc 0 (load local) (omega arith) ∙ rw (too-large pc local e) in
       rw is (record { answers = refl; leaves = refl })
 
   pub load-over :
-      (pc local v : ℕ) → packed pc local ≡ Held v → length c ≤ h → Laid c Over c (applied cells pc (does 0 (load local)) slots)
+      (pc local v : ℕ) → packed pc local ≡ Held v → length c ≤ h →
+      Laid c Over c (applied cells pc (does 0 (load local)) slots)
   load-over pc local v e full = laid-over c _ _ (load-is pc local v e) (omega (arith, top-length v))
 
   pub load-high :
       (pc local v : ℕ) → packed pc local ≡ Held v → h < length c →
       Laid c (High (h + 1)) (set c h v) (applied cells pc (does 0 (load local)) slots)
   load-high pc local v e room =
-      laid-high c _ _ (load-is pc local v e) (h + 1) (set c h v) (sym (top-length v)) (omega (arith, top-length v)) (top-shown v room)
+      laid-high c _ _ (load-is pc local v e) (h + 1) (set c h v) (sym (top-length v)) (omega (arith, top-length v))
+      (top-shown v room)
 
   -- ---- slots that are carried along
 
@@ -188,10 +199,12 @@ module _ (c : List ℕ) (h : ℕ) (clean : Clean c h) where
       enough pc 1 (carried dupPlaces) l
       ∙ ap made
       (rw (slot 1 (omega arith) l)
-      (sym (append-assoc (take (h - 1) c) (from-top 1 ∷ []) (from-top 1 ∷ [])) ∙ ap (λ (s : List ℕ). s ++ from-top 1 ∷ []) (sym (last l))))
+      (sym (append-assoc (take (h - 1) c) (from-top 1 ∷ []) (from-top 1 ∷ []))
+      ∙ ap (λ (s : List ℕ). s ++ from-top 1 ∷ []) (sym (last l))))
 
   pub dup2-is :
-      (pc : ℕ) → 2 ≤ h → applied cells pc (does 2 (carried dup2Places)) slots ≡ made (slots ++ (from-top 2 ∷ from-top 1 ∷ []))
+      (pc : ℕ) → 2 ≤ h →
+      applied cells pc (does 2 (carried dup2Places)) slots ≡ made (slots ++ (from-top 2 ∷ from-top 1 ∷ []))
   dup2-is pc l =
       enough pc 2 (carried dup2Places) l
       ∙ ap made
@@ -209,7 +222,9 @@ module _ (c : List ℕ) (h : ℕ) (clean : Clean c h) where
   swap-length l = omega (arith, length-append (take (h - 2) c) (from-top 1 ∷ from-top 2 ∷ []), kept-length 2)
 
   pub swap-shown :
-      2 ≤ h → set (set c (h - 1) (from-top 2)) (h - 2) (from-top 1) ≡ shown (length c) (take (h - 2) c ++ (from-top 1 ∷ from-top 2 ∷ []))
+      2 ≤ h →
+      set (set c (h - 1) (from-top 2)) (h - 2) (from-top 1)
+      ≡ shown (length c) (take (h - 2) c ++ (from-top 1 ∷ from-top 2 ∷ []))
   swap-shown l =
       let a : ℕ = from-top 1 in
       let b : ℕ = from-top 2 in
@@ -225,19 +240,24 @@ module _ (c : List ℕ) (h : ℕ) (clean : Clean c h) where
       ∙ ap (λ (s : List ℕ). set s (h - 2) a) (take-set-lt h c (h - 1) b (omega arith)) ∙ twice)
       (ap (λ (k : ℕ). drop k (set (set c (h - 1) b) (h - 2) a)) (swap-length l)
       ∙ drop-set-lt h (set c (h - 1) b) (h - 2) a (omega arith) ∙ drop-set-lt h c (h - 1) b (omega arith)
-      ∙ ap (λ (k : ℕ). drop k c) zero-on ∙ zeros 0 ∙ ap (λ (k : ℕ). replicate (length c - k) 0) (sym zero-on ∙ sym (swap-length l)))
+      ∙ ap (λ (k : ℕ). drop k c) zero-on ∙ zeros 0
+      ∙ ap (λ (k : ℕ). replicate (length c - k) 0) (sym zero-on ∙ sym (swap-length l)))
 
--- ---- two cells on top
+-- ---- cells that show a list
 
--- cells that show a list are clean
+pub shown-take : (room : ℕ) (slots : List ℕ) → take (length slots) (shown room slots) ≡ slots
+shown-take room slots = take-at slots (replicate (room - length slots) 0) (length slots) refl
+
+pub shown-length : (room : ℕ) (slots : List ℕ) → length slots ≤ room → length (shown room slots) ≡ room
+shown-length room slots fits =
+    omega (arith, length-append slots (replicate (room - length slots) 0), length-replicate {A = ℕ} (room - length slots) 0)
+
 pub clean-shown : (room : ℕ) (slots : List ℕ) → length slots ≤ room → Clean (shown room slots) (length slots)
 clean-shown room slots fits =
-    let size : length (shown room slots) ≡ room =
-    omega (arith, length-append slots (replicate (room - length slots) 0), length-replicate {A = ℕ} (room - length slots) 0) in
-    record {
-      high = omega (arith, size);
-      zeros = sym (ap₂ shown size (take-at slots (replicate (room - length slots) 0) (length slots) refl));
-    }
+    let size : length (shown room slots) ≡ room = shown-length room slots fits in
+    record { high = omega (arith, size); zeros = sym (ap₂ shown size (shown-take room slots)) }
+
+-- ---- two cells on top
 
 module _ (c : List ℕ) (h : ℕ) (clean : Clean c h) where
   pub two-length : (u v : ℕ) → length (take h c ++ (u ∷ v ∷ [])) ≡ h + 2
@@ -248,10 +268,11 @@ module _ (c : List ℕ) (h : ℕ) (clean : Clean c h) where
       let first : List ℕ = take h c ++ u ∷ [] in
       let size : length first ≡ h + 1 = top-length c h clean u in
       let once : set c h u ≡ shown (length c) first = top-shown c h clean u (omega arith) in
-      let whole : length (shown (length c) first) ≡ length c = ap length (sym once) ∙ length-set c h u in
-      let start : take (length first) (shown (length c) first) ≡ first = take-at first (replicate (length c - length first) 0) (length first) refl in
-      let twice : set (shown (length c) first) (length first) v ≡ shown (length (shown (length c) first)) (take (length first) (shown (length c) first) ++ v ∷ []) =
-      top-shown (shown (length c) first) (length first) (clean-shown (length c) first (omega arith)) v (omega (arith, whole)) in
+      let cells-so : List ℕ = shown (length c) first in
+      let whole : length cells-so ≡ length c = ap length (sym once) ∙ length-set c h u in
+      let start : take (length first) cells-so ≡ first = shown-take (length c) first in
+      let twice : set cells-so (length first) v ≡ shown (length cells-so) (take (length first) cells-so ++ v ∷ []) =
+      top-shown cells-so (length first) (clean-shown (length c) first (omega arith)) v (omega (arith, whole)) in
       ap₂ (λ (s : List ℕ) (k : ℕ). set s k v) once (sym size) ∙ twice
       ∙ ap₂ (λ (k : ℕ) (s : List ℕ). shown k (s ++ v ∷ [])) whole start
       ∙ ap (shown (length c)) (append-assoc (take h c) (u ∷ []) (v ∷ []))

@@ -2,17 +2,15 @@
 -- Assumes nothing.
 use Prim.Native.Nat.{ℕ, _+_, _≤_, _<_}
 use mathlib.Core.Path.{_≡_, refl, _∙_, sym, ap}
-use mathlib.Core.Bool.{Bool, true, false}
-use mathlib.Core.Logic.{inl, inr}
+use mathlib.Core.Bool.{Bool}
 use mathlib.Core.List.{List, [], _∷_}
 use lib.Dec.{T, eqb}
 use lib.ListN.{getD, drop}
-use borrow.Author.Tests.{ne-eqb}
-use types.Run.{OneOf}
-use Rattle.basics.specs.Choice.{pick, oneOf, sameList}
-use Rattle.basics.proofs.Every.{every, every-from}
-use Rattle.basics.proofs.Same.{are-same}
+use Rattle.basics.specs.Choice.{pick, sameList}
 use Rattle.effects.specs.Rows.{Row, unmodelled, opaque, aload, aloadOf, carries, keeps, gets, calls, rowOf}
+use Rattle.basics.proofs.Every.{every, every-from}
+use Rattle.basics.proofs.Keys.{Unkeyed, orKey, every-unkeyed}
+use Rattle.basics.proofs.Same.{are-same}
 
 abbrev number : Row → List ℕ
 number unmodelled = 0 ∷ []
@@ -54,33 +52,12 @@ known row op t = sym (back row) ∙ ap numbered (are-same (number row) (number (
 
 -- n opcodes from a on have the row that a rule gives them
 pub all-have :
-    (row : ℕ → Row) (a n : ℕ) → T (every (λ k. is (row (a + k)) (a + k)) n) → (op : ℕ) → a ≤ op → op < a + n → row op ≡ rowOf op
+    (row : ℕ → Row) (a n : ℕ) → T (every (λ k. is (row (a + k)) (a + k)) n) →
+    (op : ℕ) → a ≤ op → op < a + n → row op ≡ rowOf op
 all-have row a n t op from below = known (row op) op (every-from (λ k. is (row k) k) a n t op from below)
 
--- ---- the same where no arm of a match has the opcode as a key; the last arm comes first here
-
-abbrev pub keyed : List (List ℕ) → ℕ → Bool
-keyed [] op = false
-keyed (keys ∷ arms) op = pick (oneOf keys op) true (keyed arms op)
-
-abbrev pub Unkeyed : List (List ℕ) → ℕ → Type 0
-Unkeyed [] op = Unit {0}
-Unkeyed (keys ∷ arms) op = Unkeyed arms op × (OneOf keys op → ⊥)
-
-none-of : (keys : List ℕ) (op : ℕ) → (OneOf keys op → ⊥) → oneOf keys op ≡ false
-none-of [] op never = refl
-none-of (k ∷ []) op never = rw (ne-eqb op k never)
-none-of (k ∷ k′ ∷ keys) op never = rw (ne-eqb op k (λ e. never (inl e))) (none-of (k′ ∷ keys) op (λ o. never (inr o)))
-
-not-keyed : (arms : List (List ℕ)) (op : ℕ) → Unkeyed arms op → keyed arms op ≡ false
-not-keyed [] op rest = refl
-not-keyed (keys ∷ arms) op rest = rw (none-of keys op (rest .1)) (not-keyed arms op (rest .0))
-
-abbrev pub isOr : List (List ℕ) → Row → ℕ → Bool
-isOr arms row op = pick (keyed arms op) true (is row op)
-
+-- the same where no arm of a match has the opcode as a key; the last arm comes first in the list
 pub all-unkeyed :
-    (row : Row) (arms : List (List ℕ)) (a n : ℕ) → T (every (λ k. isOr arms row (a + k)) n) →
+    (row : Row) (arms : List (List ℕ)) (a n : ℕ) → T (every (λ k. orKey arms (is row) (a + k)) n) →
     (op : ℕ) → a ≤ op → op < a + n → Unkeyed arms op → row ≡ rowOf op
-all-unkeyed row arms a n t op from below rest =
-    known row op (rw (not-keyed arms op rest) at (every-from (isOr arms row) a n t op from below))
+all-unkeyed row arms a n t op from below rest = known row op (every-unkeyed (is row) arms a n t op from below rest)

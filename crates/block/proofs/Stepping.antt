@@ -2,10 +2,10 @@
 -- Assumes nothing.
 use Prim.Native.Nat.{ℕ, _+_, _≤_, _<_}
 use native.Mathlib.Omega.{arith}
-use mathlib.Core.Path.{_≡_, refl, _∙_, sym, ap}
+use mathlib.Core.Path.{_≡_, refl}
 use mathlib.Core.Bool.{Bool, true, false}
 use mathlib.Core.List.{List}
-use lib.Dec.{leb, ltb}
+use lib.Dec.{leb}
 use lib.ListN.{length}
 use borrow.Author.Tests.{lt-ltb, le-ltb}
 use Rattle.basics.specs.Bytes.{byteAt}
@@ -14,7 +14,8 @@ use Rattle.bytecode.specs.Length.{fixedLength}
 use Rattle.effects.specs.Lookup.{Lookup}
 use Rattle.effects.specs.Rows.{rowOf}
 use Rattle.block.specs.Cells.{bare, laidIn, Laid, Stepped}
-use Rattle.block.specs.Walk.{Reason, tooFew, cells, blanks, load, carried, unread, Effect, fails, does, effectBy, Made, refused, made, applied, goes, passes, landed, step}
+use Rattle.block.specs.Walk.{Reason, tooFew, cells, blanks, load, carried, unread, Effect, fails, does, effectBy, Made}
+use Rattle.block.specs.Walk.{refused, made, applied, goes, passes, landed, step}
 use Rattle.block.specs.declared.Height.{Height}
 use Rattle.block.specs.declared.Height.the-variants.{Refused, Over, High}
 use Rattle.block.specs.declared.Step.{Step}
@@ -25,7 +26,9 @@ module _ (stack : List ℕ) (answer : Height) (left : List ℕ) (pc : ℕ) (slot
   abbrev Lays : Effect → Type 0
   Lays effect = Laid stack answer left (applied cells pc effect slots)
 
-  unread-fails : (b : Bool) (reason : Reason) → Laid stack answer left (refused reason) → (other : Reason) → Laid stack answer left (pick b (refused other) (refused tooFew))
+  unread-fails :
+      (b : Bool) (reason : Reason) → Laid stack answer left (refused reason) →
+      (other : Reason) → Laid stack answer left (pick b (refused other) (refused tooFew))
   unread-fails true reason laid other = record { answers = laid .answers; leaves = laid .leaves }
   unread-fails false reason laid other = record { answers = laid .answers; leaves = laid .leaves }
 
@@ -102,7 +105,9 @@ module _ (lookup : Lookup) (code : List ℕ) (fault pc : ℕ) (stack : List ℕ)
     abbrev known : Height → Type 0
     known answer = Laid stack answer left (applied cells pc effect slots)
 
-    lay : (answer : Height) → known answer → Laid stack answer left (applied cells pc (effectBy lookup code pc (rowOf (byteAt code pc))) slots)
+    lay :
+        (answer : Height) → known answer →
+        Laid stack answer left (applied cells pc (effectBy lookup code pc (rowOf (byteAt code pc))) slots)
     lay answer laid =
         with-reason stack answer left pc slots (effectBy lookup code pc (rowOf (byteAt code pc))) (rw read at laid)
 

@@ -9,7 +9,8 @@ use lib.ListN.{length, take}
 use Rattle.basics.specs.Choice.{pick}
 use Rattle.effects.specs.Rows.{Row, unmodelled, opaque, aload, aloadOf, carries, keeps, gets, calls}
 use Rattle.block.specs.Room.{shown}
-use Rattle.block.specs.Walk.{notModelled, cellOf, Push, blanks, load, carried, unread, Effect, fails, does, Made, refused, made, Outcome, stops, goes, passes}
+use Rattle.block.specs.Walk.{notModelled, cellOf, Push, blanks, load, carried, unread, Effect, fails, does, Made}
+use Rattle.block.specs.Walk.{refused, made, Outcome, stops, goes, passes}
 use Rattle.block.specs.declared.Cell.{Cell}
 use Rattle.block.specs.declared.Cell.the-variants.{Held, TooLarge}
 use Rattle.block.specs.declared.Effect.{Effect as CodeEffect}
@@ -17,7 +18,8 @@ use Rattle.block.specs.declared.Effect.the-variants.{Fails, Opaque as Ta
 use Rattle.block.specs.declared.Height.{Height}
 use Rattle.block.specs.declared.Height.the-variants.{Refused, Over, High}
 use Rattle.block.specs.declared.Row.{Row as CodeRow}
-use Rattle.block.specs.declared.Row.the-variants.{Unmodelled, Opaque, Aload, AloadOf, Dup as RowDup, Dup2 as RowDup2, Swap as RowSwap, Keeps, Gets, Calls}
+use Rattle.block.specs.declared.Row.the-variants.{Unmodelled, Opaque, Aload, AloadOf, Dup as RowDup, Dup2 as RowDup2}
+use Rattle.block.specs.declared.Row.the-variants.{Swap as RowSwap, Keeps, Gets, Calls}
 use Rattle.block.specs.declared.Slot.{Slot}
 use Rattle.block.specs.declared.Slot.the-variants.{Other, Loaded}
 use Rattle.block.specs.declared.Step.{Step}

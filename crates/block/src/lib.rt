@@ -3,17 +3,18 @@ use descriptor::Params;
 use descriptor::Slots;
 use opcode::Opcode;
 ghost use mathlib.Core.Path.{_≡_};
-ghost use mathlib.Core.List.{List, []};
-ghost use Prim.Native.Nat.{ℕ, _+_, _<_};
-ghost use lib.ListN.{length, take, replicate};
+ghost use mathlib.Core.List.{[]};
+ghost use Prim.Native.Nat.{_+_, _<_};
 ghost use lib.Dec.{leb};
+ghost use lib.ListN.{length, take, replicate};
 ghost use Rattle.basics.specs.Bytes.{byteAt};
 ghost use Rattle.basics.specs.Choice.{pick};
 ghost use Rattle.effects.specs.Lookup.{lookupIn};
 ghost use Rattle.effects.specs.Rows.{rowOf, aload as aloadRow, gets as getsRow, calls as callsRow};
-ghost use Rattle.block.specs.Cells.{packed, unpacked, dupPlaces, dup2Places, swapPlaces, rowFrom, effectFrom, bare, Clean, Laid, Stepped};
+ghost use Rattle.block.specs.Cells.{packed, unpacked, dupPlaces, dup2Places, swapPlaces, rowFrom, effectFrom, bare};
+ghost use Rattle.block.specs.Cells.{Clean, Laid, Stepped};
 ghost use Rattle.block.specs.Room.{blockWalk, answerOf, cellsOf};
-ghost use Rattle.block.specs.Walk.{cells, blanks, load as loadPush, carried, does, effectBy, applied, made, landed, step as stepAt};
+ghost use Rattle.block.specs.Walk.{cells, blanks, load as loadPush, carried, does, effectBy, applied, step as stepAt};
 ghost use Rattle.block.specs.declared.Step.the-variants.{Goes, Passes};
 
 // What a walk answers.
@@ -191,7 +192,8 @@ fn load_effect(code: &[u8], pc: usize) -> Effect
 // The effect of reading the field that the instruction at pc cites.
 fn get_effect(code: &[u8], members: &[u8], count: usize, pc: usize, takes: usize) -> Effect
     requires { ⌜ pc < length (now code) ⌝ }
-    ensures { λ r. ⌜ effectFrom r ≡ bare (effectBy (lookupIn (now (members .entry)) count) (now (code .entry)) pc (getsRow takes)) ⌝ }
+    ensures { λ r. ⌜ effectFrom r
+        ≡ bare (effectBy (lookupIn (now (members .entry)) count) (now (code .entry)) pc (getsRow takes)) ⌝ }
 {
     if code.len() - pc < 3 {
         return Effect::Fails;
@@ -210,7 +212,8 @@ fn get_effect(code: &[u8], members: &[u8], count: usize, pc: usize, takes: usize
 // The effect of calling the method that the instruction at pc cites.
 fn call_effect(code: &[u8], members: &[u8], count: usize, pc: usize, takes: usize) -> Effect
     requires { ⌜ pc < length (now code) ⌝ }
-    ensures { λ r. ⌜ effectFrom r ≡ bare (effectBy (lookupIn (now (members .entry)) count) (now (code .entry)) pc (callsRow takes)) ⌝ }
+    ensures { λ r. ⌜ effectFrom r
+        ≡ bare (effectBy (lookupIn (now (members .entry)) count) (now (code .entry)) pc (callsRow takes)) ⌝ }
 {
     if code.len() - pc < 3 {
         return Effect::Fails;
@@ -236,7 +239,9 @@ fn call_effect(code: &[u8], members: &[u8], count: usize, pc: usize, takes: usiz
 // The effect of the instruction at pc.
 fn effect_at(code: &[u8], members: &[u8], count: usize, pc: usize) -> Effect
     requires { ⌜ pc < length (now code) ⌝ }
-    ensures { λ r. ⌜ effectFrom r ≡ bare (effectBy (lookupIn (now (members .entry)) count) (now (code .entry)) pc (rowOf (byteAt (now (code .entry)) pc))) ⌝ }
+    ensures { λ r. ⌜ effectFrom r
+        ≡ bare (effectBy (lookupIn (now (members .entry)) count) (now (code .entry)) pc
+        (rowOf (byteAt (now (code .entry)) pc))) ⌝ }
 {
     match row_of(code[pc]) {
         Row::Unmodelled => Effect::Fails,
@@ -274,7 +279,8 @@ pub fn clear(stack: &mut [u64])
 // Takes slots and pushes opaque ones, which are zero.
 fn push_opaque(stack: &mut [u64], height: usize, takes: usize, args: usize, gives: usize) -> Height
     requires { ⌜ Clean (now stack) height ⌝ }
-    ensures { λ r. ⌜ Laid (now (stack .entry)) r (now (stack .exit)) (applied cells 0 (does (takes + args) (blanks gives)) (take height (now (stack .entry)))) ⌝ }
+    ensures { λ r. ⌜ Laid (now (stack .entry)) r (now (stack .exit))
+        (applied cells 0 (does (takes + args) (blanks gives)) (take height (now (stack .entry)))) ⌝ }
 {
     if height < args {
         return Height::Refused;
@@ -294,7 +300,8 @@ fn push_opaque(stack: &mut [u64], height: usize, takes: usize, args: usize, give
 // Pushes the load of a local.
 fn push_load(stack: &mut [u64], height: usize, pc: usize, local: usize) -> Height
     requires { ⌜ Clean (now stack) height ⌝ }
-    ensures { λ r. ⌜ Laid (now (stack .entry)) r (now (stack .exit)) (applied cells pc (does 0 (loadPush local)) (take height (now (stack .entry)))) ⌝ }
+    ensures { λ r. ⌜ Laid (now (stack .entry)) r (now (stack .exit))
+        (applied cells pc (does 0 (loadPush local)) (take height (now (stack .entry)))) ⌝ }
 {
     let Cell::Held(cell) = pack(pc, local) else {
         return Height::Refused;
@@ -308,7 +315,8 @@ fn push_load(stack: &mut [u64], height: usize, pc: usize, local: usize) -> Heigh
 
 fn push_dup(stack: &mut [u64], height: usize) -> Height
     requires { ⌜ Clean (now stack) height ⌝ }
-    ensures { λ r. ⌜ Laid (now (stack .entry)) r (now (stack .exit)) (applied cells 0 (does 1 (carried dupPlaces)) (take height (now (stack .entry)))) ⌝ }
+    ensures { λ r. ⌜ Laid (now (stack .entry)) r (now (stack .exit))
+        (applied cells 0 (does 1 (carried dupPlaces)) (take height (now (stack .entry)))) ⌝ }
 {
     if height < 1 {
         return Height::Refused;
@@ -322,7 +330,8 @@ fn push_dup(stack: &mut [u64], height: usize) -> Height
 
 fn push_dup2(stack: &mut [u64], height: usize) -> Height
     requires { ⌜ Clean (now stack) height ⌝ }
-    ensures { λ r. ⌜ Laid (now (stack .entry)) r (now (stack .exit)) (applied cells 0 (does 2 (carried dup2Places)) (take height (now (stack .entry)))) ⌝ }
+    ensures { λ r. ⌜ Laid (now (stack .entry)) r (now (stack .exit))
+        (applied cells 0 (does 2 (carried dup2Places)) (take height (now (stack .entry)))) ⌝ }
 {
     if height < 2 {
         return Height::Refused;
@@ -337,7 +346,8 @@ fn push_dup2(stack: &mut [u64], height: usize) -> Height
 
 fn swap_top(stack: &mut [u64], height: usize) -> Height
     requires { ⌜ Clean (now stack) height ⌝ }
-    ensures { λ r. ⌜ Laid (now (stack .entry)) r (now (stack .exit)) (applied cells 0 (does 2 (carried swapPlaces)) (take height (now (stack .entry)))) ⌝ }
+    ensures { λ r. ⌜ Laid (now (stack .entry)) r (now (stack .exit))
+        (applied cells 0 (does 2 (carried swapPlaces)) (take height (now (stack .entry)))) ⌝ }
 {
     if height < 2 {
         return Height::Refused;
@@ -351,7 +361,8 @@ fn swap_top(stack: &mut [u64], height: usize) -> Height
 // Applies an effect to the slots of a height.
 fn apply(stack: &mut [u64], height: usize, pc: usize, effect: Effect) -> Height
     requires { ⌜ Clean (now stack) height ⌝ }
-    ensures { λ r. ⌜ Laid (now (stack .entry)) r (now (stack .exit)) (applied cells pc (effectFrom effect) (take height (now (stack .entry)))) ⌝ }
+    ensures { λ r. ⌜ Laid (now (stack .entry)) r (now (stack .exit))
+        (applied cells pc (effectFrom effect) (take height (now (stack .entry)))) ⌝ }
 {
     match effect {
         Effect::Fails => Height::Refused,
@@ -389,7 +400,9 @@ fn step_at(
 ) -> Step
     requires { ⌜ Clean (now stack) height ⌝ }
     requires { ⌜ pc < fault ⌝ }
-    ensures { λ r. ⌜ Stepped (now (stack .entry)) r (now (stack .exit)) (stepAt cells rowOf (lookupIn (now (members .entry)) count) (now (code .entry)) fault pc (take height (now (stack .entry)))) ⌝ }
+    ensures { λ r. ⌜ Stepped (now (stack .entry)) r (now (stack .exit))
+        (stepAt cells rowOf (lookupIn (now (members .entry)) count) (now (code .entry)) fault pc
+        (take height (now (stack .entry)))) ⌝ }
 {
     if code.len() <= pc {
         return Step::Stops;
@@ -412,8 +425,10 @@ pub fn simulate_block(
     fault: usize,
     stack: &mut [u64],
 ) -> Walk
-    ensures answers { λ r. ⌜ r ≡ answerOf (blockWalk (now (code .entry)) (now (members .entry)) count leader fault (length (now (stack .entry)))) ⌝ }
-    ensures leaves { λ r. ⌜ now (stack .exit) ≡ cellsOf (length (now (stack .entry))) (blockWalk (now (code .entry)) (now (members .entry)) count leader fault (length (now (stack .entry)))) ⌝ }
+    ensures answers { λ r. ⌜ r ≡ answerOf
+        (blockWalk (now (code .entry)) (now (members .entry)) count leader fault (length (now (stack .entry)))) ⌝ }
+    ensures leaves { λ r. ⌜ now (stack .exit) ≡ cellsOf (length (now (stack .entry)))
+        (blockWalk (now (code .entry)) (now (members .entry)) count leader fault (length (now (stack .entry)))) ⌝ }
 {
     clear(stack);
     let mut pc = leader;

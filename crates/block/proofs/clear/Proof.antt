@@ -1,16 +1,19 @@
-use mathlib.Core.Path.{_≡_, refl, ap, _∙_}
-use mathlib.Core.List.{List, _++_, append-nil}
+-- `block::clear` meets its contract. The loop's invariant: the first cells are zero, the others as they were.
+-- Assumes nothing.
 use Prim.Native.Nat.{ℕ, _-_, _≤_}
 use native.Mathlib.Omega.{arith}
+use mathlib.Core.Path.{_≡_, refl, ap, _∙_}
+use mathlib.Core.List.{List, _++_, append-nil}
 use lib.ListN.{length, set, drop, replicate, length-set}
 use lib.Seq.{drop-length}
-use borrow.Author.Needs.{needs}
 use borrow.Author.Fill.{fill-more}
+use borrow.Author.Needs.{needs}
 use Rattle.block.proofs.clear.Statement.{statement}
 use Rattle.block.proofs.clear.Tie as tie
 
 abbrev Inv-loop : tie.InvT-loop
-Inv-loop stack₀ i₀ stack i = (i ≤ length stack₀) × (length stack ≡ length stack₀) × (stack ≡ replicate i 0 ++ drop i stack₀)
+Inv-loop stack₀ i₀ stack i =
+    (i ≤ length stack₀) × (length stack ≡ length stack₀) × (stack ≡ replicate i 0 ++ drop i stack₀)
 
 abbrev μ-loop : tie.MeasureT-loop
 μ-loop stack₀ i₀ stack i = length stack₀ - i
@@ -51,4 +54,5 @@ returns c =
 
 pub clear-spec : {M : Type 1} → statement M
 clear-spec =
-    tie.close (tie.spec Inv-loop μ-loop loop-holds mul-stack slice-write-stack add-i loop-less loop-again same-length returns)
+    tie.close
+    (tie.spec Inv-loop μ-loop loop-holds mul-stack slice-write-stack add-i loop-less loop-again same-length returns)

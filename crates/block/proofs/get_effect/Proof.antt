@@ -1,60 +1,52 @@
-use Rattle.block.proofs.Effects as laws
+-- `block::get_effect` meets its contract. The ways in which it fails, then the slots of the field.
+-- Assumes nothing.
+use native.Mathlib.Omega.{arith}
+use mathlib.Core.Path.{_∙_, ap}
+use borrow.Author.Needs.{needs}
 use Rattle.descriptor.specs.Readers.{fieldSlots}
 use Rattle.effects.specs.Lookup.{lookupIn}
-use denote.Ref.{now}
-use mathlib.Core.Path.{_∙_, ap}
-use native.Mathlib.Omega.{arith}
-use borrow.Author.Needs.{needs}
+use Rattle.block.proofs.Effects as laws
 use Rattle.block.proofs.get_effect.Statement.{statement}
 use Rattle.block.proofs.get_effect.Tie as tie
-use Rattle.block.proofs.get_effect.Reads as reads
-use Rattle.block.proofs.get_effect.Lts as lts
-use Rattle.bytecode.proofs.read_u16.Reads as read-u16-reads
-use Rattle.casefile.proofs.descriptor_of.Reads as descriptor-of-reads
-use Rattle.casefile.proofs.find_member.Reads as find-member-reads
-use Rattle.descriptor.proofs.slots_of_field_type.Reads as slots-of-field-type-reads
 
--- src/lib.rt:186:8
 sub-if1 : tie.Need-sub-if1
 sub-if1 c = search needs
 
--- src/lib.rt:187:9
 returns : tie.Need-returns
-returns c = laws.get-cut (now (c .before .before .before .args .code)) (c .before .before .before .args .pc) (lookupIn (now (c .before .before .before .args .members)) (c .before .before .before .args .count)) (c .before .before .before .args .takes) (omega arith)
+returns c =
+    let a = c .before .before .before .args in
+    laws.get-cut (a .code .now) (a .pc) (lookupIn (a .members .now) (a .count)) (a .takes) (omega arith)
 
--- src/lib.rt:189:80
 add-read-u16 : tie.Need-add-read-u16
 add-read-u16 c = search needs
 
--- src/lib.rt:189:55
 read-u16-requires : tie.Need-read-u16-requires
 read-u16-requires c κs = search needs
 
--- src/lib.rt:189:9
 find-member-requires : tie.Need-find-member-requires
 find-member-requires c κs = search needs
 
--- src/lib.rt:191:9
 returns-2 : tie.Need-returns-2
 returns-2 c =
-    let a = c .before .before .before .before .before .before .args in
-    laws.get-missing (now (a .code)) (a .pc) (now (a .members)) (a .count) (a .takes) _ _ (omega arith) (c .before .before .read-u16 .ensures .0)
-    (c .before .find-member .ensures) (c .if2 .taken)
+    let found = c .before in
+    let a = found .before .before .before .before .before .args in
+    laws.get-missing (a .code .now) (a .pc) (a .members .now) (a .count) (a .takes) _ _ (omega arith)
+    (found .before .read-u16 .ensures .0) (found .find-member .ensures) (c .if2 .taken)
 
--- src/lib.rt:196:48
 descriptor-of-requires : tie.Need-descriptor-of-requires
 descriptor-of-requires c κs = search needs
 
--- src/lib.rt:196:16
 slots-of-field-type-requires : tie.Need-slots-of-field-type-requires
 slots-of-field-type-requires c κs = search needs
 
--- src/lib.rt:182:1
 returns-3 : tie.Need-returns-3
 returns-3 c =
-    let a = c .before .before .before .before .before .before .before .before .args in
-    laws.got (now (a .code)) (a .pc) (now (a .members)) (a .count) (a .takes) _ _ (omega arith) (c .before .before .before .before .read-u16 .ensures .0)
-    _ (c .before .before .before .find-member .ensures) (c .before .before .if2 .left) (c .slots-of-field-type .ensures ∙ ap fieldSlots (c .before .descriptor-of .ensures))
+    let part = c .before in
+    let found = part .before .before in
+    let a = found .before .before .before .before .before .args in
+    laws.got (a .code .now) (a .pc) (a .members .now) (a .count) (a .takes) _ _ (omega arith)
+    (found .before .read-u16 .ensures .0) _ (found .find-member .ensures) (part .before .if2 .left)
+    (c .slots-of-field-type .ensures ∙ ap fieldSlots (part .descriptor-of .ensures))
 
 pub get-effect-spec : {M : Type 1} → statement M
 get-effect-spec =

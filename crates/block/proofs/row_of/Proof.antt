@@ -1,114 +1,103 @@
-use Rattle.block.proofs.OfOpcode.{all-have, all-unkeyed}
-use Rattle.effects.specs.Rows.{unmodelled, opaque, calls, rowOf}
-use native.Mathlib.Omega.{arith}
+-- `block::row_of` meets its contract. Each arm and each gap between arms is one computed test.
+-- Assumes nothing.
 use Prim.Native.Nat.{ℕ}
+use native.Mathlib.Omega.{arith}
 use mathlib.Core.List.{List, [], _∷_}
 use borrow.Author.Needs.{needs}
+use Rattle.effects.specs.Rows.{unmodelled, opaque, calls, rowOf}
+use Rattle.block.proofs.OfOpcode.{all-have, all-unkeyed}
 use Rattle.block.proofs.row_of.Statement.{statement}
 use Rattle.block.proofs.row_of.Tie as tie
-use Rattle.block.proofs.row_of.Reads as reads
-use Rattle.block.proofs.row_of.Lts as lts
-use Rattle.block.proofs.local_row.Reads as local-row-reads
 
 -- the keys of the arms, the last first
 abbrev arms : List (List ℕ)
-arms = (193 ∷ []) ∷ (192 ∷ []) ∷ (187 ∷ []) ∷ (184 ∷ []) ∷ (185 ∷ []) ∷ (180 ∷ []) ∷ (178 ∷ []) ∷ (132 ∷ []) ∷ (95 ∷ []) ∷ (92 ∷ []) ∷ (89 ∷ []) ∷ (88 ∷ []) ∷ (87 ∷ []) ∷ []
+arms =
+    (193 ∷ []) ∷ (192 ∷ []) ∷ (187 ∷ []) ∷ (184 ∷ []) ∷ (185 ∷ []) ∷ (180 ∷ []) ∷ (178 ∷ []) ∷ (132 ∷ []) ∷ (95 ∷ [])
+    ∷ (92 ∷ []) ∷ (89 ∷ []) ∷ (88 ∷ []) ∷ (87 ∷ []) ∷ []
 
--- src/lib.rt:147:9
 local-row-requires : tie.Need-local-row-requires
 local-row-requires c κs = search needs
 
--- src/lib.rt:147:9
 returns : tie.Need-returns
 unfolding rowOf
 returns c = c .local-row .ensures
 
--- src/lib.rt:143:1
 returns-2 : tie.Need-returns-2
 unfolding rowOf
 returns-2 c = rw (c .match .keys1)
 
--- src/lib.rt:143:1
 returns-3 : tie.Need-returns-3
 unfolding rowOf
 returns-3 c = rw (c .match .keys2)
 
--- src/lib.rt:143:1
 returns-4 : tie.Need-returns-4
 unfolding rowOf
 returns-4 c = rw (c .match .keys3)
 
--- src/lib.rt:143:1
 returns-5 : tie.Need-returns-5
 unfolding rowOf
 returns-5 c = rw (c .match .keys4)
 
--- src/lib.rt:143:1
 returns-6 : tie.Need-returns-6
 unfolding rowOf
 returns-6 c = rw (c .match .keys5)
 
--- src/lib.rt:143:1
 returns-7 : tie.Need-returns-7
 unfolding rowOf
 returns-7 c = rw (c .match .keys6)
 
--- src/lib.rt:143:1
 returns-8 : tie.Need-returns-8
 unfolding rowOf
 returns-8 c = rw (c .match .keys7)
 
--- src/lib.rt:143:1
 returns-9 : tie.Need-returns-9
 unfolding rowOf
 returns-9 c = rw (c .match .keys8)
 
--- src/lib.rt:143:1
 returns-10 : tie.Need-returns-10
 unfolding rowOf
 returns-10 c = rw (c .match .keys10)
 
--- src/lib.rt:143:1
 returns-11 : tie.Need-returns-11
 unfolding rowOf
 returns-11 c = rw (c .match .keys11)
 
--- src/lib.rt:143:1
 returns-12 : tie.Need-returns-12
 unfolding rowOf
 returns-12 c = rw (c .match .keys12)
 
--- src/lib.rt:143:1
 returns-13 : tie.Need-returns-13
 unfolding rowOf
 returns-13 c = rw (c .match .keys13)
 
--- src/lib.rt:143:1
 returns-14 : tie.Need-returns-14
 unfolding rowOf
-returns-14 c = all-unkeyed (opaque 1 1) arms 187 4 tt (c .before .before .before .before .before .before .args .op) (omega arith) (omega arith) (c .before .before .before .before .match .rest)
+returns-14 c =
+    all-unkeyed (opaque 1 1) arms 187 4 tt (c .before .before .before .before .before .before .args .op)
+    (omega arith) (omega arith) (c .before .before .before .before .match .rest)
 
--- src/lib.rt:143:1
 returns-15 : tie.Need-returns-15
 unfolding rowOf
-returns-15 c = all-unkeyed (unmodelled) arms 79 103 tt (c .before .before .before .args .op) (omega arith) (omega arith) (c .before .match .rest)
+returns-15 c =
+    all-unkeyed unmodelled arms 79 103 tt (c .before .before .before .args .op)
+    (omega arith) (omega arith) (c .before .match .rest)
 
--- src/lib.rt:143:1
 returns-16 : tie.Need-returns-16
 unfolding rowOf
-returns-16 c = all-unkeyed (unmodelled) arms 184 3 tt (c .before .before .before .before .before .args .op) (omega arith) (omega arith) (c .before .before .before .match .rest)
+returns-16 c =
+    all-unkeyed unmodelled arms 184 3 tt (c .before .before .before .before .before .args .op)
+    (omega arith) (omega arith) (c .before .before .before .match .rest)
 
--- src/lib.rt:143:1
 returns-17 : tie.Need-returns-17
 unfolding rowOf
-returns-17 c = all-unkeyed (unmodelled) arms 191 65 tt (c .before .before .before .before .before .before .args .op) (omega arith) (omega arith) (c .before .before .before .before .match .rest)
+returns-17 c =
+    all-unkeyed unmodelled arms 191 65 tt (c .before .before .before .before .before .before .args .op)
+    (omega arith) (omega arith) (c .before .before .before .before .match .rest)
 
--- src/lib.rt:143:1
 returns-18 : tie.Need-returns-18
 unfolding rowOf
 returns-18 c = rw (c .match .keys9)
 
--- src/lib.rt:143:1
 returns-19 : tie.Need-returns-19
 unfolding rowOf
 returns-19 c = all-have (λ op. calls 1) 182 2 tt (c .before .before .before .before .args .op) (omega arith) (omega arith)

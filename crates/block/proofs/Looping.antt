@@ -1,0 +1,167 @@
+-- The walk's loop: the walk from an index on is the walk from the leader. Where the loop ends, the contract is met.
+-- Assumes nothing.
+use Prim.Native.Nat.{ℕ, zero, suc, _+_, _-_, _≤_, _<_}
+use native.Mathlib.Nat.{zero-add}
+use native.Mathlib.Omega.{arith}
+use mathlib.Core.Path.{_≡_, refl, _∙_, sym, ap}
+use mathlib.Core.List.{List, []}
+use lib.ListN.{length, take, replicate, length-replicate}
+use lib.Seq.{length-take-le}
+use borrow.Author.Tests.{le-leb}
+use Rattle.basics.specs.Bytes.{AreBytes}
+use Rattle.effects.specs.Lookup.{Lookup, lookupIn}
+use Rattle.block.specs.Cells.{Clean, stepOf, steppedIn, Stepped}
+use Rattle.block.specs.Room.{completed, Roomed, fits, blockWalk, answerOf, shown, cellsOf}
+use Rattle.block.specs.Walk.{Reason, overshot, Outcome, goes, failed, walk}
+use Rattle.block.specs.declared.Step.{Step}
+use Rattle.block.specs.declared.Step.the-variants.{Stops, Lacks, Passes, Goes}
+use Rattle.block.specs.declared.Walk.{Walk}
+use Rattle.block.specs.declared.Walk.the-variants.{Done, Failed, NoRoom}
+use Rattle.block.proofs.Laying.{shown-take, shown-length, clean-shown}
+use Rattle.block.proofs.Walking.{onward, at, from, following, turn, ended-at, ended-past, stopped, lacked, passed}
+use Rattle.block.proofs.Walking.{went}
+
+module _ (code members : List ℕ) (count leader fault : ℕ) where
+  abbrev lookup : Lookup
+  lookup = lookupIn members count
+
+  abbrev whole : ℕ → Roomed ℕ
+  whole room = blockWalk code members count leader fault room
+
+  -- stack: the cells, whose first so many are the slots
+  abbrev pub Inv : ℕ → List ℕ → ℕ → ℕ → ℕ → Type 0
+  Inv room stack pc height completed =
+      (length stack ≡ room) × Clean stack height
+      × ((turns : ℕ) × (fault - pc ≤ turns) × (completed + turns ≡ fault - leader)
+      × (from lookup code fault room turns pc (take height stack) completed ≡ whole room))
+
+  -- the loop starts at the leader, in cells that are zero
+  pub starts : (room : ℕ) (stack : List ℕ) → stack ≡ replicate room 0 → Inv (length stack) stack leader 0 0
+  unfolding blockWalk completed walk
+  starts room stack e =
+      let size : length stack ≡ room = ap length e ∙ length-replicate room 0 in
+      let clean : Clean (shown (length stack) []) 0 = clean-shown (length stack) [] (omega arith) in
+      let none : length stack - 0 ≡ room = omega (arith, size) in
+      let same : shown (length stack) [] ≡ stack = ap (λ (k : ℕ). replicate k 0) none ∙ sym e in
+      (refl, rw same at clean, (fault - leader, omega arith, zero-add _, refl))
+
+  -- ---- a turn
+
+  moved :
+      (room : ℕ) (left list : List ℕ) (next high completed turns : ℕ) → left ≡ shown room list → high ≡ length list →
+      length list ≤ room → fault - next ≤ turns → completed + turns ≡ fault - leader →
+      from lookup code fault room turns next list completed ≡ whole room → Inv room left next high completed
+  moved room left list next high completed turns left-is high-is small enough spent e = (
+    ap length left-is ∙ shown-length room list small,
+    rw (left-is, high-is) (clean-shown room list small),
+    (turns, enough, spent, rw (left-is, high-is, shown-take room list) e),
+  )
+
+  module _ (room : ℕ) (stack : List ℕ) (pc height completed : ℕ) (i : Inv room stack pc height completed) where
+    abbrev here : Outcome ℕ
+    here = at lookup code fault room pc (take height stack)
+
+    -- some turns are left
+    next-turn :
+        (turns : ℕ) → pc < fault → fault - pc ≤ turns →
+        from lookup code fault room turns pc (take height stack) completed ≡ whole room →
+        following lookup code fault room (turns - 1) pc completed here ≡ whole room
+    next-turn zero short enough e = absurd (omega arith)
+    next-turn (suc turns) short enough e =
+        let one : suc turns - 1 ≡ turns = omega arith in
+        rw one (sym (turn lookup code fault room turns pc completed (take height stack) short) ∙ e)
+
+    told : pc < fault → following lookup code fault room (i .2 .0 - 1) pc completed here ≡ whole room
+    told short = next-turn (i .2 .0) short (i .2 .1) (i .2 .3)
+
+    sized-so : (answer : Step) → answer ≡ stepOf (length stack) here → answer ≡ stepOf room here
+    sized-so answer e = e ∙ ap (λ (k : ℕ). stepOf k here) (i .0)
+
+    laid :
+        (left list : List ℕ) (next : ℕ) → here ≡ goes next list → left ≡ steppedIn stack here → length list ≤ room →
+        left ≡ shown room list
+    laid left list next e l small =
+        l ∙ ap (steppedIn stack) e
+        ∙ rw (le-leb (length list) (length stack) (omega (arith, i .0))) (ap (λ (k : ℕ). shown k list) (i .0))
+
+    module _ (bytes : AreBytes code) (short : pc < fault) (left : List ℕ) (next high : ℕ)
+        (s : Stepped stack (Goes next high) left here) where
+      pub up : pc < next
+      up =
+          let w = went lookup code fault room next high here (sized-so (Goes next high) (s .answers)) in
+          onward lookup code fault pc (take height stack) bytes next (w .0) (w .1)
+
+      pub again : Inv room left next high (completed + 1)
+      again =
+          let w = went lookup code fault room next high here (sized-so (Goes next high) (s .answers)) in
+          let list : List ℕ = w .0 in
+          let left-is : left ≡ shown room list = laid left list next (w .1) (s .leaves) (w .3) in
+          let goes-on : following lookup code fault room (i .2 .0 - 1) pc completed (goes next list) ≡ whole room =
+          rw (w .1) at (told short) in
+          moved room left list next high (completed + 1) (i .2 .0 - 1) left-is (w .2) (w .3) (omega (arith, i .2 .1, up))
+          (omega (arith, i .2 .1, i .2 .2)) (rw (le-leb (length list) room (w .3)) at goes-on)
+
+  -- ---- the contract, where the loop ends. entry: the lent cells; cleared: these before the first turn
+
+  module _ (entry cleared : List ℕ) (zeros : cleared ≡ replicate (length entry) 0) where
+    abbrev Met : List ℕ → Walk → Type 0
+    Met left answer = (answer ≡ answerOf (whole (length entry))) × (left ≡ cellsOf (length entry) (whole (length entry)))
+
+    same : length cleared ≡ length entry
+    same = ap length zeros ∙ length-replicate (length entry) 0
+
+    failed-so :
+        (left : List ℕ) (completed : ℕ) (reason : Reason) → whole (length cleared) ≡ fits (failed completed reason) →
+        left ≡ replicate (length entry) 0 → Met left (Failed completed)
+    failed-so left completed reason e l = rw (ap whole (sym same) ∙ e) (refl, l)
+
+    emptied :
+        (left final : List ℕ) → length left ≡ length entry → final ≡ replicate (length left) 0 →
+        final ≡ replicate (length entry) 0
+    emptied left final size e = e ∙ ap (λ (k : ℕ). replicate k 0) size
+
+    module _ (stack : List ℕ) (pc height completed : ℕ) (i : Inv (length cleared) stack pc height completed) where
+      abbrev now : Outcome ℕ
+      now = here (length cleared) stack pc height completed i
+
+      -- left: the cells that the instruction leaves; final: these cleared
+      module _ (short : pc < fault) (left final : List ℕ) (size : length left ≡ length entry)
+          (none : final ≡ replicate (length left) 0) where
+        pub ends-stopped : Stepped stack Stops left now → Met final (Failed completed)
+        ends-stopped s =
+            let t = stopped lookup code fault (length cleared) (i .2 .0 - 1) pc completed now
+            (sized-so (length cleared) stack pc height completed i Stops (s .answers)) in
+            failed-so final completed (t .0) (sym (told (length cleared) stack pc height completed i short) ∙ t .1)
+            (emptied left final size none)
+
+        pub ends-passed : Stepped stack Passes left now → Met final (Failed (completed + 1))
+        ends-passed s =
+            let t = passed lookup code fault (length cleared) (i .2 .0 - 1) pc completed now
+            (sized-so (length cleared) stack pc height completed i Passes (s .answers)) in
+            failed-so final (completed + 1) overshot (sym (told (length cleared) stack pc height completed i short) ∙ t)
+            (emptied left final size none)
+
+        pub ends-lacked : Stepped stack Lacks left now → Met final (NoRoom pc)
+        ends-lacked s =
+            let t = lacked lookup code fault (length cleared) (i .2 .0 - 1) pc completed now
+            (sized-so (length cleared) stack pc height completed i Lacks (s .answers)) in
+            rw (ap whole (sym same) ∙ sym (told (length cleared) stack pc height completed i short) ∙ t)
+            (refl, emptied left final size none)
+
+      pub ends-past :
+          fault ≤ pc → (pc ≡ fault → ⊥) → (final : List ℕ) → final ≡ replicate (length stack) 0 →
+          Met final (Failed completed)
+      ends-past l e final none =
+          failed-so final completed overshot
+          (sym (i .2 .3) ∙ ended-past lookup code fault (length cleared) (i .2 .0) pc completed (take height stack) l e)
+          (emptied stack final (i .0 ∙ same) none)
+
+      pub ends-done : pc ≡ fault → Met stack (Done height completed)
+      ends-done e =
+          let high : length (take height stack) ≡ height = length-take-le height stack (i .1 .high) in
+          rw
+          (ap whole (sym same) ∙ sym (i .2 .3)
+          ∙ ended-at lookup code fault (length cleared) (i .2 .0) pc completed (take height stack) e) (
+            ap (λ (k : ℕ). Done k completed) (sym high),
+            i .1 .zeros ∙ ap (λ (k : ℕ). shown k (take height stack)) (i .0 ∙ same),
+          )

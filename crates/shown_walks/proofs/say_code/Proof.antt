@@ -1,0 +1,48 @@
+-- `shown_walks::say_code` meets its contract. The loop counts the bytes up.
+-- Assumes nothing.
+use Prim.Native.Nat.{_-_, _≤_}
+use lib.ListN.{length}
+use borrow.Author.Needs.{needs}
+use Rattle.shown_walks.proofs.say_code.Statement.{statement}
+use Rattle.shown_walks.proofs.say_code.Tie as tie
+
+abbrev Inv-loop : tie.InvT-loop
+Inv-loop code i₀ i = i ≤ length code
+
+abbrev μ-loop : tie.MeasureT-loop
+μ-loop code i₀ i = length code - i
+
+loop-holds : tie.Need-loop-holds Inv-loop μ-loop
+loop-holds c = search needs
+
+shared-slice-read-say-byte : tie.Need-shared-slice-read-say-byte Inv-loop μ-loop
+shared-slice-read-say-byte c = search needs
+
+say-byte-requires : tie.Need-say-byte-requires Inv-loop μ-loop
+say-byte-requires c κs = tt
+
+add-i : tie.Need-add-i Inv-loop μ-loop
+add-i c = search needs
+
+loop-less : tie.Need-loop-less Inv-loop μ-loop
+loop-less c = search needs
+
+loop-again : tie.Need-loop-again Inv-loop μ-loop
+loop-again c = search needs
+
+returns : tie.Need-returns Inv-loop μ-loop
+returns c = search needs
+
+pub say-code-spec : {M : Type 1} → statement M
+say-code-spec =
+    tie.close
+    (tie.spec
+    Inv-loop
+    μ-loop
+    loop-holds
+    shared-slice-read-say-byte
+    say-byte-requires
+    add-i
+    loop-less
+    loop-again
+    returns)
