@@ -1,10 +1,10 @@
 -- The parts of a case that is read lie in it.
 -- Assumes nothing.
-use Prim.Native.Nat.{ℕ, _+_, _-_, _≤_, _<_}
+use Prim.Native.Nat.{ℕ, _+_, _≤_}
 use native.Mathlib.Omega.{arith}
-use mathlib.Core.Path.{_≡_, subst}
 use mathlib.Core.Bool.{Bool, true, false}
 use mathlib.Core.List.{List}
+use mathlib.Core.Path.{_≡_}
 use lib.Dec.{ltb}
 use lib.ListN.{length}
 use Rattle.basics.specs.Choice.{pick}
@@ -12,17 +12,17 @@ use Rattle.casefile.specs.Layout.{runWithin, membersThen, recordsThen, ended, r
 use Rattle.casefile.specs.Number.{greatest, numberAt, numberWithin, thenNumber}
 use Rattle.casefile.specs.Text.{textAt, textWithin, thenText}
 use Rattle.casefile.specs.Whole.{tablesAt, thenTables, placesIn, longest, caseOf}
-use Rattle.casefile.specs.declared.Case.{Case}
 use Rattle.casefile.specs.declared.Case.the-variants.{Parts, Wrong, TooLong}
-use Rattle.casefile.specs.declared.Number.{Number}
+use Rattle.casefile.specs.declared.Case.{Case}
 use Rattle.casefile.specs.declared.Number.the-variants.{Value, NotNumber}
-use Rattle.casefile.specs.declared.Run.{Run}
+use Rattle.casefile.specs.declared.Number.{Number}
 use Rattle.casefile.specs.declared.Run.the-variants as run
-use Rattle.casefile.specs.declared.Tables.{Tables}
-use Rattle.casefile.specs.declared.Tables.the-variants as tables
+use Rattle.casefile.specs.declared.Run.{Run}
 use Rattle.casefile.specs.declared.TablePlaces.{TablePlaces}
-use Rattle.casefile.specs.declared.Text.{Text}
+use Rattle.casefile.specs.declared.Tables.the-variants as tables
+use Rattle.casefile.specs.declared.Tables.{Tables}
 use Rattle.casefile.specs.declared.Text.the-variants.{Place, NotText}
+use Rattle.casefile.specs.declared.Text.{Text}
 use Rattle.casefile.proofs.Laws.{number-within, text-within, run-within}
 
 -- what holds of the answer at a wrong item, and of what follows a right one, holds of the whole

@@ -1,10 +1,10 @@
 -- What the walk's answer and its cells tell of the trace.
 -- Assumes nothing.
-use Prim.Native.Nat.{ℕ, _+_, _-_, _≤_, _<_}
+use Prim.Native.Nat.{ℕ, _-_, _≤_, _<_}
 use native.Mathlib.Omega.{arith}
-use mathlib.Core.Path.{_≡_, refl, _∙_, sym, ap}
 use mathlib.Core.Bool.{Bool, true, false}
 use mathlib.Core.List.{List}
+use mathlib.Core.Path.{_≡_, refl, _∙_, sym, ap}
 use lib.Dec.{ltb}
 use lib.ListN.{length, getD, take, replicate, length-append}
 use lib.Seq.{getD-take, take-at}
@@ -13,8 +13,8 @@ use Rattle.basics.specs.Choice.{pick}
 use Rattle.block.specs.Cells.{unpacked}
 use Rattle.block.specs.Room.{Roomed, lacks, fits, answerOf, shown, cellsOf}
 use Rattle.block.specs.Walk.{done, failed}
-use Rattle.block.specs.declared.Slot.{Slot}
 use Rattle.block.specs.declared.Slot.the-variants.{Other}
+use Rattle.block.specs.declared.Slot.{Slot}
 use Rattle.block.specs.declared.Walk.the-variants.{Done, Failed, NoRoom}
 use Rattle.report.specs.Trace.{slotFrom, traceOf}
 use Rattle.report.specs.declared.Trace.the-variants.{NoRoom as LacksRoom, Traced}

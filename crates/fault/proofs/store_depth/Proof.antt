@@ -1,18 +1,13 @@
-use borrow.Author.Tests.{eq-eqb, ne-eqb}
+use borrow.Author.Tests.{ne-eqb}
 use Rattle.fault.proofs.store_depth.Statement.{statement}
 use Rattle.fault.proofs.store_depth.Tie as tie
-use Rattle.fault.proofs.store_depth.Reads as reads
-use Rattle.fault.proofs.store_depth.Lts as lts
 
--- src/lib.rt:101:9
 returns : tie.Need-returns
 returns c = rw (c .if1 .taken)
 
--- src/lib.rt:104:9
 returns-2 : tie.Need-returns-2
 returns-2 c = rw (c .if2 .taken)
 
--- src/lib.rt:97:1
 returns-3 : tie.Need-returns-3
 returns-3 c = rw (ne-eqb (c .before .before .args .op) 80 (c .before .if1 .left), ne-eqb (c .before .before .args .op) 82 (c .if2 .left))
 
