@@ -35,7 +35,9 @@ module _ (code members : List ℕ) (count fault : ℕ) where
       rw (le-ltb fault (length code) l)
       (either (both (invokes (byteAt code fault)) (constructs members count (u16At code (fault + 1)))))
 
-  pub inside : (op : ℕ) → fault < length code → byteAt code fault ≡ op → decodedAs op code members count fault ≡ decoded code members count fault
+  pub inside :
+      (op : ℕ) → fault < length code → byteAt code fault ≡ op →
+      decodedAs op code members count fault ≡ decoded code members count fault
   unfolding decoded decodedAs depthOf
   inside op l e = rw (lt-ltb fault (length code) l, e)
 
@@ -77,7 +79,8 @@ module _ (code members : List ℕ) (count fault : ℕ) where
       pub invoke-missing : length texts ≡ 0 → Nothing ≡ decodedAs 182 code members count fault
       unfolding decodedAs ruleOf actionOf lookupIn
       invoke-missing empty =
-          rw (lt-ltb (fault + 2) (length code) whole, ← cites, ← found, known-none texts empty) (either (constructs members count index))
+          rw (lt-ltb (fault + 2) (length code) whole, ← cites, ← found, known-none texts empty)
+          (either (constructs members count index))
 
       module _ (some : length texts ≡ 0 → ⊥) where
         pub constructor : sameList (nameOf texts) (ascii "<init>") ≡ true → Nothing ≡ decodedAs 182 code members count fault
@@ -93,7 +96,8 @@ module _ (code members : List ℕ) (count fault : ℕ) where
               (slots end : ℕ) → parameters (descriptorOf texts) ≡ Read slots end →
               Failed (Invoke index) slots ≡ decodedAs 182 code members count fault
           unfolding decodedAs ruleOf actionOf lookupIn constructs
-          invokes-method slots end p = rw (lt-ltb (fault + 2) (length code) whole, ← cites, ← found, known-some texts some, other, p)
+          invokes-method slots end p =
+              rw (lt-ltb (fault + 2) (length code) whole, ← cites, ← found, known-some texts some, other, p)
 
   -- ---- opcodes
 
@@ -136,7 +140,8 @@ module _ (code members : List ℕ) (count fault : ℕ) where
       by-test false = refl
 
   -- 183 and 185 are as 182
-  pub as-special : (op : ℕ) → 182 ≤ op → op < 184 → decodedAs 182 code members count fault ≡ decodedAs op code members count fault
+  pub as-special :
+      (op : ℕ) → 182 ≤ op → op < 184 → decodedAs 182 code members count fault ≡ decodedAs op code members count fault
   unfolding decodedAs ruleOf actionOf
   as-special op l u =
       ⊎-elim

@@ -1,3 +1,5 @@
+-- `fault::assign_fault` meets its contract. One law for each way out.
+-- Assumes nothing.
 use native.Mathlib.Omega.{arith}
 use mathlib.Core.Path.{ap, _∙_}
 use borrow.Author.Needs.{needs}
@@ -11,7 +13,9 @@ sub-if1 : tie.Need-sub-if1
 sub-if1 c = search needs
 
 returns : tie.Need-returns
-returns c = decode.assign-cut (now (c .before .before .before .args .code)) (now (c .before .before .before .args .members)) (c .before .before .before .args .count) (c .before .before .before .args .fault) (omega arith)
+returns c =
+    let a = c .before .before .before .args in
+    decode.assign-cut (now (a .code)) (now (a .members)) (a .count) (a .fault) (omega arith)
 
 add-read-u16 : tie.Need-add-read-u16
 add-read-u16 c = search needs
@@ -25,8 +29,8 @@ find-member-requires c κs = search needs
 returns-2 : tie.Need-returns-2
 returns-2 c =
     let a = c .before .before .before .before .before .before .args in
-    decode.assign-missing (now (a .code)) (now (a .members)) (a .count) (a .fault) _ _ (omega arith) (c .before .before .read-u16 .ensures .0)
-    (c .before .find-member .ensures) (c .if2 .taken)
+    decode.assign-missing (now (a .code)) (now (a .members)) (a .count) (a .fault) _ _ (omega arith)
+    (c .before .before .read-u16 .ensures .0) (c .before .find-member .ensures) (c .if2 .taken)
 
 descriptor-of-requires : tie.Need-descriptor-of-requires
 descriptor-of-requires c κs = search needs
@@ -37,8 +41,9 @@ slots-of-field-type-requires c κs = search needs
 returns-3 : tie.Need-returns-3
 returns-3 c =
     let a = c .before .before .before .before .before .before .before .before .args in
-    decode.assigns-field (now (a .code)) (now (a .members)) (a .count) (a .fault) _ _ (omega arith) (c .before .before .before .before .read-u16 .ensures .0)
-    (c .before .before .before .find-member .ensures) _ (c .before .before .if2 .left) (c .slots-of-field-type .ensures ∙ ap fieldSlots (c .before .descriptor-of .ensures))
+    decode.assigns-field (now (a .code)) (now (a .members)) (a .count) (a .fault) _ _ (omega arith)
+    (c .before .before .before .before .read-u16 .ensures .0) (c .before .before .before .find-member .ensures) _
+    (c .before .before .if2 .left) (c .slots-of-field-type .ensures ∙ ap fieldSlots (c .before .descriptor-of .ensures))
 
 pub assign-fault-spec : {M : Type 1} → statement M
 assign-fault-spec =

@@ -1,3 +1,5 @@
+-- `fault::decode_fault` meets its contract. Each arm by what its opcode decodes to; an opcode between the arms decodes to nothing.
+-- Assumes nothing.
 use Prim.Native.Nat.{ℕ}
 use native.Mathlib.Omega.{arith}
 use mathlib.Core.List.{List, [], _∷_}
@@ -17,7 +19,9 @@ abbrev arms : List (List ℕ)
 arms = (195 ∷ []) ∷ (194 ∷ []) ∷ (191 ∷ []) ∷ (190 ∷ []) ∷ (185 ∷ []) ∷ (181 ∷ []) ∷ (180 ∷ []) ∷ []
 
 returns : tie.Need-returns
-returns c = decode.outside (now (c .before .before .before .args .code)) (now (c .before .before .before .args .members)) (c .before .before .before .args .count) (c .before .before .before .args .fault) (c .if1 .taken)
+returns c =
+    let a = c .before .before .before .args in
+    decode.outside (now (a .code)) (now (a .members)) (a .count) (a .fault) (c .if1 .taken)
 
 shared-slice-read-op : tie.Need-shared-slice-read-op
 shared-slice-read-op c = search needs
@@ -43,18 +47,22 @@ invoke-fault-requires-2 c κs = search needs
 returns-2 : tie.Need-returns-2
 returns-2 c =
     let a = c .before .before .before .before .before .before .args in
-    c .read-fault .ensures ∙ decode.inside (now (a .code)) (now (a .members)) (a .count) (a .fault) 180 (omega arith) (c .before .match .keys1)
+    c .read-fault .ensures
+    ∙ decode.inside (now (a .code)) (now (a .members)) (a .count) (a .fault) 180 (omega arith) (c .before .match .keys1)
 
 returns-3 : tie.Need-returns-3
 returns-3 c =
     let a = c .before .before .before .before .before .before .args in
-    c .assign-fault .ensures ∙ decode.inside (now (a .code)) (now (a .members)) (a .count) (a .fault) 181 (omega arith) (c .before .match .keys2)
+    c .assign-fault .ensures
+    ∙ decode.inside (now (a .code)) (now (a .members)) (a .count) (a .fault) 181 (omega arith) (c .before .match .keys2)
 
 returns-4 : tie.Need-returns-4
 returns-4 c =
     let a = c .before .before .before .before .before .before .args in
-    c .invoke-fault .ensures ∙ decode.as-interface (now (a .code)) (now (a .members)) (a .count) (a .fault) (byteAt (now (a .code)) (a .fault)) (c .before .match .keys3)
-    ∙ decode.inside (now (a .code)) (now (a .members)) (a .count) (a .fault) (byteAt (now (a .code)) (a .fault)) (omega arith) refl
+    let op : ℕ = byteAt (now (a .code)) (a .fault) in
+    c .invoke-fault .ensures
+    ∙ decode.as-interface (now (a .code)) (now (a .members)) (a .count) (a .fault) op (c .before .match .keys3)
+    ∙ decode.inside (now (a .code)) (now (a .members)) (a .count) (a .fault) op (omega arith) refl
 
 returns-5 : tie.Need-returns-5
 unfolding decodedAs ruleOf actionOf
@@ -83,20 +91,28 @@ returns-8 c =
 returns-9 : tie.Need-returns-9
 returns-9 c =
     let a = c .before .before .before .before .before .before .before .before .args in
-    c .load-fault .ensures ∙ decode.loads-array (now (a .code)) (now (a .members)) (a .count) (a .fault) (byteAt (now (a .code)) (a .fault)) (omega arith) (omega arith)
-    ∙ decode.inside (now (a .code)) (now (a .members)) (a .count) (a .fault) (byteAt (now (a .code)) (a .fault)) (omega arith) refl
+    let op : ℕ = byteAt (now (a .code)) (a .fault) in
+    c .load-fault .ensures
+    ∙ decode.loads-array (now (a .code)) (now (a .members)) (a .count) (a .fault) op (omega arith) (omega arith)
+    ∙ decode.inside (now (a .code)) (now (a .members)) (a .count) (a .fault) op (omega arith) refl
 
 returns-10 : tie.Need-returns-10
 returns-10 c =
     let a = c .before .before .before .before .before .before .before .before .before .before .args in
-    c .store-fault .ensures ∙ decode.stores-array (now (a .code)) (now (a .members)) (a .count) (a .fault) (byteAt (now (a .code)) (a .fault)) (omega arith) (omega arith)
-    ∙ decode.inside (now (a .code)) (now (a .members)) (a .count) (a .fault) (byteAt (now (a .code)) (a .fault)) (omega arith) refl
+    let op : ℕ = byteAt (now (a .code)) (a .fault) in
+    c .store-fault .ensures
+    ∙ decode.stores-array (now (a .code)) (now (a .members)) (a .count) (a .fault) op (omega arith) (omega arith)
+    ∙ decode.inside (now (a .code)) (now (a .members)) (a .count) (a .fault) op (omega arith) refl
 
 returns-11 : tie.Need-returns-11
 returns-11 c =
     let a = c .before .before .before .before .before .before .before .before .before .before .before .before .args in
-    c .invoke-fault2 .ensures ∙ decode.as-special (now (a .code)) (now (a .members)) (a .count) (a .fault) (byteAt (now (a .code)) (a .fault)) (decode.behind-fields (byteAt (now (a .code)) (a .fault)) (c .before .before .if6 .left) (c .before .before .before .before .before .before .before .match .rest .0 .0 .0 .0 .0 .0 .1) (c .before .before .before .before .before .before .before .match .rest .0 .0 .0 .0 .0 .1)) (c .before .if7 .taken)
-    ∙ decode.inside (now (a .code)) (now (a .members)) (a .count) (a .fault) (byteAt (now (a .code)) (a .fault)) (omega arith) refl
+    let op : ℕ = byteAt (now (a .code)) (a .fault) in
+    let rest = c .before .before .before .before .before .before .before .match .rest in
+    let behind = decode.behind-fields op (c .before .before .if6 .left) (rest .0 .0 .0 .0 .0 .0 .1) (rest .0 .0 .0 .0 .0 .1) in
+    c .invoke-fault2 .ensures
+    ∙ decode.as-special (now (a .code)) (now (a .members)) (a .count) (a .fault) op behind (c .before .if7 .taken)
+    ∙ decode.inside (now (a .code)) (now (a .members)) (a .count) (a .fault) op (omega arith) refl
 
 returns-12 : tie.Need-returns-12
 unfolding ruleOf
@@ -104,7 +120,8 @@ returns-12 c =
     let a = c .before .before .before .before .before .before .args in
     let op : ℕ = byteAt (now (a .code)) (a .fault) in
     decode.nothing-at (now (a .code)) (now (a .members)) (a .count) (a .fault) op
-    (decode.none-so (ruleOf op) (every-unkeyed (λ k. decode.isNone (ruleOf k)) arms 0 46 tt op (omega arith) (omega arith) (c .before .match .rest)))
+    (decode.none-so (ruleOf op)
+    (every-unkeyed (λ k. decode.isNone (ruleOf k)) arms 0 46 tt op (omega arith) (omega arith) (c .before .match .rest)))
     ∙ decode.inside (now (a .code)) (now (a .members)) (a .count) (a .fault) op (omega arith) refl
 
 returns-13 : tie.Need-returns-13
@@ -112,8 +129,10 @@ unfolding ruleOf
 returns-13 c =
     let a = c .before .before .before .before .before .before .before .before .args in
     let op : ℕ = byteAt (now (a .code)) (a .fault) in
+    let rest = c .before .before .before .match .rest in
     decode.nothing-at (now (a .code)) (now (a .members)) (a .count) (a .fault) op
-    (decode.none-so (ruleOf op) (every-unkeyed (λ k. decode.isNone (ruleOf k)) arms 54 25 tt op (omega arith) (omega arith) (c .before .before .before .match .rest)))
+    (decode.none-so (ruleOf op)
+    (every-unkeyed (λ k. decode.isNone (ruleOf k)) arms 54 25 tt op (omega arith) (omega arith) rest))
     ∙ decode.inside (now (a .code)) (now (a .members)) (a .count) (a .fault) op (omega arith) refl
 
 returns-14 : tie.Need-returns-14
@@ -121,8 +140,10 @@ unfolding ruleOf
 returns-14 c =
     let a = c .before .before .before .before .before .before .before .before .before .before .args in
     let op : ℕ = byteAt (now (a .code)) (a .fault) in
+    let rest = c .before .before .before .before .before .match .rest in
     decode.nothing-at (now (a .code)) (now (a .members)) (a .count) (a .fault) op
-    (decode.none-so (ruleOf op) (every-unkeyed (λ k. decode.isNone (ruleOf k)) arms 87 95 tt op (omega arith) (omega arith) (c .before .before .before .before .before .match .rest)))
+    (decode.none-so (ruleOf op)
+    (every-unkeyed (λ k. decode.isNone (ruleOf k)) arms 87 95 tt op (omega arith) (omega arith) rest))
     ∙ decode.inside (now (a .code)) (now (a .members)) (a .count) (a .fault) op (omega arith) refl
 
 returns-15 : tie.Need-returns-15
@@ -130,8 +151,11 @@ unfolding ruleOf
 returns-15 c =
     let a = c .before .before .before .before .before .before .before .before .before .before .before .args in
     let op : ℕ = byteAt (now (a .code)) (a .fault) in
+    let byte = c .before .before .before .before .before .before .before .before .before .before .shared-slice-known .given in
+    let rest = c .before .before .before .before .before .before .match .rest in
     decode.nothing-at (now (a .code)) (now (a .members)) (a .count) (a .fault) op
-    (decode.none-so (ruleOf op) (every-unkeyed (λ k. decode.isNone (ruleOf k)) arms 184 72 tt op (c .if7 .left) (c .before .before .before .before .before .before .before .before .before .before .shared-slice-known .given (a .fault) .fits) (c .before .before .before .before .before .before .match .rest)))
+    (decode.none-so (ruleOf op)
+    (every-unkeyed (λ k. decode.isNone (ruleOf k)) arms 184 72 tt op (c .if7 .left) (byte (a .fault) .fits) rest))
     ∙ decode.inside (now (a .code)) (now (a .members)) (a .count) (a .fault) op (omega arith) refl
 
 pub decode-fault-spec : {M : Type 1} → statement M

@@ -1,3 +1,5 @@
+-- `fault::invoke_fault` meets its contract. One law for each way out; `<init>` is the name that is refused.
+-- Assumes nothing.
 use Prim.Native.Nat.{ℕ}
 use native.Mathlib.Omega.{arith}
 use mathlib.Core.List.{List}
@@ -16,7 +18,9 @@ sub-if1 : tie.Need-sub-if1
 sub-if1 c = search needs
 
 returns : tie.Need-returns
-returns c = decode.invoke-cut (now (c .before .before .before .args .code)) (now (c .before .before .before .args .members)) (c .before .before .before .args .count) (c .before .before .before .args .fault) (omega arith)
+returns c =
+    let a = c .before .before .before .args in
+    decode.invoke-cut (now (a .code)) (now (a .members)) (a .count) (a .fault) (omega arith)
 
 add-read-u16 : tie.Need-add-read-u16
 add-read-u16 c = search needs
@@ -30,8 +34,8 @@ find-member-requires c κs = search needs
 returns-2 : tie.Need-returns-2
 returns-2 c =
     let a = c .before .before .before .before .before .before .args in
-    decode.invoke-missing (now (a .code)) (now (a .members)) (a .count) (a .fault) _ _ (omega arith) (c .before .before .read-u16 .ensures .0)
-    (c .before .find-member .ensures) (c .if2 .taken)
+    decode.invoke-missing (now (a .code)) (now (a .members)) (a .count) (a .fault) _ _ (omega arith)
+    (c .before .before .read-u16 .ensures .0) (c .before .find-member .ensures) (c .if2 .taken)
 
 name-of-requires : tie.Need-name-of-requires
 name-of-requires c κs = search needs
@@ -46,7 +50,8 @@ returns-3 : tie.Need-returns-3
 returns-3 c =
     let a = c .before .before .before .before .before .before .before .before .before .before .args in
     let s = c .before .same in
-    decode.constructor (now (a .code)) (now (a .members)) (a .count) (a .fault) _ _ (omega arith) (c .before .before .before .before .before .before .read-u16 .ensures .0)
+    decode.constructor (now (a .code)) (now (a .members)) (a .count) (a .fault) _ _ (omega arith)
+    (c .before .before .before .before .before .before .read-u16 .ensures .0)
     (c .before .before .before .before .before .find-member .ensures) (c .before .before .before .before .if2 .left)
     (ap (λ (l : List ℕ). sameList l (ascii "<init>")) (sym (c .before .before .before .name-of .ensures))
     ∙ same-told (s .result) _ (ascii "<init>") (s .ensures .0) (s .ensures .1) ∙ c .if3 .taken)
@@ -65,23 +70,29 @@ enum-told c = search needs
 
 returns-4 : tie.Need-returns-4
 returns-4 c =
-    let a = c .before .before .before .before .before .before .before .before .before .before .before .before .before .before .args in
-    let s = c .before .before .before .before .before .same in
-    decode.invoke-unread (now (a .code)) (now (a .members)) (a .count) (a .fault) _ _ (omega arith) (c .before .before .before .before .before .before .before .before .before .before .read-u16 .ensures .0)
-    (c .before .before .before .before .before .before .before .before .before .find-member .ensures) (c .before .before .before .before .before .before .before .before .if2 .left)
-    (ap (λ (l : List ℕ). sameList l (ascii "<init>")) (sym (c .before .before .before .before .before .before .before .name-of .ensures))
-    ∙ same-told (s .result) _ (ascii "<init>") (s .ensures .0) (s .ensures .1) ∙ c .before .before .before .before .if3 .left)
-    (ap parameters (sym (c .before .before .before .descriptor-of .ensures)) ∙ sym (c .before .before .parse-method-params .ensures) ∙ c .enum-told .given .1)
+    let named = c .before .before .before .before in
+    let looked = named .before .before .before .before in
+    let a = looked .before .before .before .before .before .before .args in
+    let s = named .before .same in
+    decode.invoke-unread (now (a .code)) (now (a .members)) (a .count) (a .fault) _ _ (omega arith)
+    (looked .before .before .read-u16 .ensures .0) (looked .before .find-member .ensures) (looked .if2 .left)
+    (ap (λ (l : List ℕ). sameList l (ascii "<init>")) (sym (named .before .before .before .name-of .ensures))
+    ∙ same-told (s .result) _ (ascii "<init>") (s .ensures .0) (s .ensures .1) ∙ named .if3 .left)
+    (ap parameters (sym (c .before .before .before .descriptor-of .ensures))
+    ∙ sym (c .before .before .parse-method-params .ensures) ∙ c .enum-told .given .1)
 
 returns-5 : tie.Need-returns-5
 returns-5 c =
-    let a = c .before .before .before .before .before .before .before .before .before .before .before .before .before .before .before .args in
-    let s = c .before .before .before .before .before .before .same in
-    decode.invokes-method (now (a .code)) (now (a .members)) (a .count) (a .fault) _ _ (omega arith) (c .before .before .before .before .before .before .before .before .before .before .before .read-u16 .ensures .0)
-    (c .before .before .before .before .before .before .before .before .before .before .find-member .ensures) (c .before .before .before .before .before .before .before .before .before .if2 .left)
-    (ap (λ (l : List ℕ). sameList l (ascii "<init>")) (sym (c .before .before .before .before .before .before .before .before .name-of .ensures))
-    ∙ same-told (s .result) _ (ascii "<init>") (s .ensures .0) (s .ensures .1) ∙ c .before .before .before .before .before .if3 .left) _ _
-    (ap parameters (sym (c .before .before .before .before .descriptor-of .ensures)) ∙ sym (c .before .before .before .parse-method-params .ensures) ∙ c .before .slots .given .1)
+    let named = c .before .before .before .before .before in
+    let looked = named .before .before .before .before in
+    let a = looked .before .before .before .before .before .before .args in
+    let s = named .before .same in
+    decode.invokes-method (now (a .code)) (now (a .members)) (a .count) (a .fault) _ _ (omega arith)
+    (looked .before .before .read-u16 .ensures .0) (looked .before .find-member .ensures) (looked .if2 .left)
+    (ap (λ (l : List ℕ). sameList l (ascii "<init>")) (sym (named .before .before .before .name-of .ensures))
+    ∙ same-told (s .result) _ (ascii "<init>") (s .ensures .0) (s .ensures .1) ∙ named .if3 .left) _ _
+    (ap parameters (sym (c .before .before .before .before .descriptor-of .ensures))
+    ∙ sym (c .before .before .before .parse-method-params .ensures) ∙ c .before .slots .given .1)
 
 pub invoke-fault-spec : {M : Type 1} → statement M
 invoke-fault-spec =

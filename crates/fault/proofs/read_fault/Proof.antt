@@ -1,3 +1,5 @@
+-- `fault::read_fault` meets its contract. One law for each way out.
+-- Assumes nothing.
 use native.Mathlib.Omega.{arith}
 use borrow.Author.Needs.{needs}
 use denote.Ref.{now}
@@ -9,7 +11,9 @@ sub-if1 : tie.Need-sub-if1
 sub-if1 c = search needs
 
 returns : tie.Need-returns
-returns c = decode.read-cut (now (c .before .before .before .args .code)) (now (c .before .before .before .args .members)) (c .before .before .before .args .count) (c .before .before .before .args .fault) (omega arith)
+returns c =
+    let a = c .before .before .before .args in
+    decode.read-cut (now (a .code)) (now (a .members)) (a .count) (a .fault) (omega arith)
 
 add-read-u16 : tie.Need-add-read-u16
 add-read-u16 c = search needs
@@ -23,14 +27,14 @@ find-member-requires c κs = search needs
 returns-2 : tie.Need-returns-2
 returns-2 c =
     let a = c .before .before .before .before .before .before .args in
-    decode.read-missing (now (a .code)) (now (a .members)) (a .count) (a .fault) _ _ (omega arith) (c .before .before .read-u16 .ensures .0)
-    (c .before .find-member .ensures) (c .if2 .taken)
+    decode.read-missing (now (a .code)) (now (a .members)) (a .count) (a .fault) _ _ (omega arith)
+    (c .before .before .read-u16 .ensures .0) (c .before .find-member .ensures) (c .if2 .taken)
 
 returns-3 : tie.Need-returns-3
 returns-3 c =
     let a = c .before .before .before .before .before .before .args in
-    decode.reads-field (now (a .code)) (now (a .members)) (a .count) (a .fault) _ _ (omega arith) (c .before .before .read-u16 .ensures .0)
-    (c .before .find-member .ensures) (c .if2 .left)
+    decode.reads-field (now (a .code)) (now (a .members)) (a .count) (a .fault) _ _ (omega arith)
+    (c .before .before .read-u16 .ensures .0) (c .before .find-member .ensures) (c .if2 .left)
 
 pub read-fault-spec : {M : Type 1} → statement M
 read-fault-spec =

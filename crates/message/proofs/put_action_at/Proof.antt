@@ -1,3 +1,5 @@
+-- `message::put_action_at` meets its contract. Each arm by what its writer writes, of the member that the action cites.
+-- Assumes nothing.
 use borrow.Author.Needs.{needs}
 use Rattle.message.specs.Message.{actionText}
 use Rattle.message.proofs.put_action_at.Statement.{statement}
@@ -101,35 +103,53 @@ same-length c = search needs
 
 returns : tie.Need-returns
 unfolding actionText
-returns c = rw (c .before .before .before .before .before .before .before .before .action .given .1, ← c .before .before .before .before .before .before .find-member .ensures, ← c .before .before .before .name-of .ensures) (c .before .before .put-quoted-at .ensures)
+returns c =
+    let cited = c .before .before .before .before .before .before in
+    rw (
+      cited .before .before .action .given .1,
+      ← cited .find-member .ensures,
+      ← c .before .before .before .name-of .ensures,
+    ) (c .before .before .put-quoted-at .ensures)
 
 same-length-2 : tie.Need-same-length-2
 same-length-2 c = search needs
 
 returns-2 : tie.Need-returns-2
 unfolding actionText
-returns-2 c = rw (c .before .before .before .before .before .before .before .before .action2 .given .1, ← c .before .before .before .before .before .before .find-member2 .ensures, ← c .before .before .before .name-of2 .ensures) (c .before .before .put-quoted-at2 .ensures)
+returns-2 c =
+    let cited = c .before .before .before .before .before .before in
+    rw (
+      cited .before .before .action2 .given .1,
+      ← cited .find-member2 .ensures,
+      ← c .before .before .before .name-of2 .ensures,
+    ) (c .before .before .put-quoted-at2 .ensures)
 
 same-length-3 : tie.Need-same-length-3
 same-length-3 c = search needs
 
 returns-3 : tie.Need-returns-3
 unfolding actionText
-returns-3 c = rw (c .before .before .before .before .before .before .action3 .given .1, ← c .before .before .before .find-member3 .ensures) (c .before .before .put-invoke-at .ensures)
+returns-3 c =
+    rw (
+      c .before .before .before .before .before .before .action3 .given .1,
+      ← c .before .before .before .find-member3 .ensures,
+    ) (c .before .before .put-invoke-at .ensures)
 
 same-length-4 : tie.Need-same-length-4
 same-length-4 c = search needs
 
 returns-4 : tie.Need-returns-4
 unfolding actionText
-returns-4 c = rw (c .before .before .before .before .before .before .action4 .given .1) (c .before .before .put-array-at .ensures)
+returns-4 c =
+    rw (c .before .before .before .before .before .before .action4 .given .1) (c .before .before .put-array-at .ensures)
 
 same-length-5 : tie.Need-same-length-5
 same-length-5 c = search needs
 
 returns-5 : tie.Need-returns-5
 unfolding actionText
-returns-5 c = rw (c .before .before .before .before .before .before .action5 .given .1) (c .before .before .put-array-at2 .ensures)
+returns-5 c =
+    rw (c .before .before .before .before .before .before .action5 .given .1) (c .before .before .put-array-at2 .ensures)
 
 same-length-6 : tie.Need-same-length-6
 same-length-6 c = search needs

@@ -1,3 +1,5 @@
+-- `message::put_array_at` meets its contract. Three writers, one after the other.
+-- Assumes nothing.
 use native.Mathlib.Omega.{arith}
 use borrow.Author.Needs.{needs}
 use Rattle.message.specs.Message.{arrayText}
@@ -22,7 +24,11 @@ same-length c = search needs
 
 returns : tie.Need-returns
 unfolding arrayText
-returns c = written-then (omega arith) (written-then (omega arith) (c .before .before .before .before .before .before .before .before .before .before .before .put-at .ensures) (c .before .before .before .before .before .before .before .put-element-at .ensures)) (c .before .before .put-at2 .ensures)
+returns c =
+    let element = c .before .before .before .before .before .before .before in
+    written-then (omega arith)
+    (written-then (omega arith) (element .before .before .before .before .put-at .ensures) (element .put-element-at .ensures))
+    (c .before .before .put-at2 .ensures)
 
 pub put-array-at-spec : {M : Type 1} → statement M
 put-array-at-spec =

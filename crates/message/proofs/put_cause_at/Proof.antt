@@ -1,3 +1,5 @@
+-- `message::put_cause_at` meets its contract. Nothing is written for a slot that holds no load, else three writers one after the other.
+-- Assumes nothing.
 use native.Mathlib.Omega.{arith}
 use borrow.Author.Needs.{needs}
 use denote.Ref.{now}
@@ -29,7 +31,9 @@ put-at-requires-2 c κs = search needs
 
 returns : tie.Need-returns
 unfolding causeText
-returns c = rw (c .enum-told .given .1) (written-none (now (c .before .before .before .before .before .args .out)) (omega arith))
+returns c =
+    rw (c .enum-told .given .1)
+    (written-none (now (c .before .before .before .before .before .args .out)) (omega arith))
 
 same-length : tie.Need-same-length
 same-length c = search needs
@@ -37,8 +41,13 @@ same-length c = search needs
 returns-2 : tie.Need-returns-2
 unfolding causeText
 returns-2 c =
-    rw (c .before .before .before .before .before .before .before .before .before .before .before .before .before .before .before .cause .given .1)
-    (written-then (omega arith) (written-then (omega arith) (c .before .before .before .before .before .before .before .before .before .before .before .put-at .ensures) (c .before .before .before .before .before .before .before .describe-local .ensures)) (c .before .before .put-at2 .ensures))
+    rw (c .before .before .before .before .before .before .before .before .before .before .before .before
+    .before .before .before .cause .given .1)
+    (written-then (omega arith)
+    (written-then (omega arith)
+    (c .before .before .before .before .before .before .before .before .before .before .before .put-at .ensures)
+    (c .before .before .before .before .before .before .before .describe-local .ensures))
+    (c .before .before .put-at2 .ensures))
 
 pub put-cause-at-spec : {M : Type 1} → statement M
 put-cause-at-spec =

@@ -1,3 +1,5 @@
+-- `message::put_element_at` meets its contract. Each arm by its number; what is behind the arms is `short`.
+-- Assumes nothing.
 use Prim.Native.Nat.{ℕ, zero, suc}
 use mathlib.Core.List.{[], _∷_}
 use mathlib.Core.Path.{_≡_, refl}
@@ -108,7 +110,10 @@ returns-7 c = rw (c .before .before .before .before .before .match .keys7) (c .b
 same-length-8 : tie.Need-same-length-8
 same-length-8 c = search needs
 
-short-so : (k : ℕ) → Unkeyed ((6 ∷ []) ∷ (5 ∷ []) ∷ (4 ∷ []) ∷ (3 ∷ []) ∷ (2 ∷ []) ∷ (1 ∷ []) ∷ (0 ∷ []) ∷ []) k → elementText k ≡ ascii "short"
+-- the keys of the arms, the last first
+short-so :
+    (k : ℕ) → Unkeyed ((6 ∷ []) ∷ (5 ∷ []) ∷ (4 ∷ []) ∷ (3 ∷ []) ∷ (2 ∷ []) ∷ (1 ∷ []) ∷ (0 ∷ []) ∷ []) k →
+    elementText k ≡ ascii "short"
 unfolding elementText
 short-so zero rest = absurd (rest .0 .0 .0 .0 .0 .0 .1 refl)
 short-so (suc zero) rest = absurd (rest .0 .0 .0 .0 .0 .1 refl)
@@ -120,7 +125,9 @@ short-so (suc (suc (suc (suc (suc (suc zero)))))) rest = absurd (rest .1 refl)
 short-so (suc (suc (suc (suc (suc (suc (suc k))))))) rest = refl
 
 returns-8 : tie.Need-returns-8
-returns-8 c = rw (short-so (c .before .before .before .before .before .before .before .args .element) (c .before .before .before .before .before .match .rest)) (c .before .before .put-at8 .ensures)
+returns-8 c =
+    let element = c .before .before .before .before .before .before .before .args .element in
+    rw (short-so element (c .before .before .before .before .before .match .rest)) (c .before .before .put-at8 .ensures)
 
 pub put-element-at-spec : {M : Type 1} → statement M
 put-element-at-spec =

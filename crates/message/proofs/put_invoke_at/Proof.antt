@@ -1,3 +1,5 @@
+-- `message::put_invoke_at` meets its contract. Five writers, one after the other.
+-- Assumes nothing.
 use native.Mathlib.Omega.{arith}
 use borrow.Author.Needs.{needs}
 use Rattle.message.specs.Message.{invokeText}
@@ -41,7 +43,13 @@ returns c =
     rw (← c .before .before .before .before .before .before .before .before .descriptor-of .ensures)
     (written-then (omega arith)
     (written-then (omega arith)
-    (written-then (omega arith) (written-then (omega arith) (c .before .before .before .before .before .before .before .before .before .before .before .before .before .before .before .before .before .before .before .before .before .put-at .ensures) (c .before .before .before .before .before .before .before .before .before .before .before .before .before .before .before .before .before .put-method-at .ensures)) (c .before .before .before .before .before .before .before .before .before .before .before .before .put-at2 .ensures))
+    (written-then (omega arith)
+    (written-then (omega arith)
+    (c .before .before .before .before .before .before .before .before .before .before .before .before
+    .before .before .before .before .before .before .before .before .before .put-at .ensures)
+    (c .before .before .before .before .before .before .before .before .before .before .before .before
+    .before .before .before .before .before .put-method-at .ensures))
+    (c .before .before .before .before .before .before .before .before .before .before .before .before .put-at2 .ensures))
     (c .before .before .before .before .before .before .before .put-params-at .ensures))
     (c .before .before .put-at3 .ensures))
 

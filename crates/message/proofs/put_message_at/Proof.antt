@@ -1,3 +1,5 @@
+-- `message::put_message_at` meets its contract. The action, then the cause.
+-- Assumes nothing.
 use native.Mathlib.Omega.{arith}
 use borrow.Author.Needs.{needs}
 use Rattle.message.specs.Message.{messageText}
@@ -16,7 +18,10 @@ same-length c = search needs
 
 returns : tie.Need-returns
 unfolding messageText
-returns c = written-then (omega arith) (c .before .before .before .before .before .before .put-action-at .ensures) (c .before .before .put-cause-at .ensures)
+returns c =
+    written-then (omega arith)
+    (c .before .before .before .before .before .before .put-action-at .ensures)
+    (c .before .before .put-cause-at .ensures)
 
 pub put-message-at-spec : {M : Type 1} → statement M
 put-message-at-spec =

@@ -1,3 +1,5 @@
+-- `message::put_method_at` meets its contract. Three writers, one after the other, of the parts' texts.
+-- Assumes nothing.
 use native.Mathlib.Omega.{arith}
 use borrow.Author.Needs.{needs}
 use Rattle.message.specs.Message.{methodText}
@@ -29,8 +31,12 @@ same-length c = search needs
 returns : tie.Need-returns
 unfolding methodText
 returns c =
-    rw (← c .before .before .before .before .before .before .before .before .before .before .before .before .before .class-of .ensures, ← c .before .before .before .name-of .ensures)
-    (written-then (omega arith) (written-then (omega arith) (c .before .before .before .before .before .before .before .before .before .before .before .before .put-class-at .ensures) (c .before .before .before .before .before .before .before .put-at .ensures)) (c .before .before .put-at2 .ensures))
+    let dot = c .before .before .before .before .before .before .before in
+    let class = dot .before .before .before .before .before in
+    rw (← class .before .class-of .ensures, ← c .before .before .before .name-of .ensures)
+    (written-then (omega arith)
+    (written-then (omega arith) (class .put-class-at .ensures) (dot .put-at .ensures))
+    (c .before .before .put-at2 .ensures))
 
 pub put-method-at-spec : {M : Type 1} → statement M
 put-method-at-spec =

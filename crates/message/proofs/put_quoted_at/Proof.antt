@@ -1,3 +1,5 @@
+-- `message::put_quoted_at` meets its contract. Four writers, one after the other.
+-- Assumes nothing.
 use native.Mathlib.Omega.{arith}
 use borrow.Author.Needs.{needs}
 use Rattle.message.specs.Message.{quoted}
@@ -30,7 +32,13 @@ returns : tie.Need-returns
 unfolding quoted
 returns c =
     written-then (omega arith)
-    (written-then (omega arith) (written-then (omega arith) (c .before .before .before .before .before .before .before .before .before .before .before .before .before .before .before .before .put-at .ensures) (c .before .before .before .before .before .before .before .before .before .before .before .put-at2 .ensures)) (c .before .before .before .before .before .before .before .put-at3 .ensures)) (c .before .before .put-at4 .ensures)
+    (written-then (omega arith)
+    (written-then (omega arith)
+    (c .before .before .before .before .before .before .before .before .before .before .before .before
+    .before .before .before .before .put-at .ensures)
+    (c .before .before .before .before .before .before .before .before .before .before .before .put-at2 .ensures))
+    (c .before .before .before .before .before .before .before .put-at3 .ensures))
+    (c .before .before .put-at4 .ensures)
 
 pub put-quoted-at-spec : {M : Type 1} → statement M
 put-quoted-at-spec =
