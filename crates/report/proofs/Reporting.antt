@@ -30,7 +30,8 @@ module _ (p : Parts) (room : ℕ) (out : List ℕ) where
   module _ (action : Action) (depth : ℕ) where
     pub is-roomless :
         (index : ℕ) → decoded (p .code) (p .members) (p .memberCount) (p .fault) ≡ Failed action depth →
-        traced (p .code) (p .members) (p .memberCount) (p .fault) depth room ≡ NoRoom index → Reports (report.NoRoom index) out
+        traced (p .code) (p .members) (p .memberCount) (p .fault) depth room ≡ NoRoom index →
+        Reports (report.NoRoom index) out
     unfolding saidOf
     is-roomless index e t = rw (e, t) (refl, refl)
 
@@ -40,11 +41,13 @@ module _ (p : Parts) (room : ℕ) (out : List ℕ) where
         (instance : Bool) → instance ≡ isInstance (p .flags) → (answer : Report) (left : List ℕ) →
         answer
         ≡ answerBy
-        (said (messageText (p .members) (p .memberCount) action cause (p .records) (p .recordCount) (p .signature) instance) (kindOf cause) scan block)
+        (said (messageText (p .members) (p .memberCount) action cause (p .records) (p .recordCount) (p .signature) instance)
+        (kindOf cause) scan block)
         (length out) →
         left
         ≡ outputBy
-        (said (messageText (p .members) (p .memberCount) action cause (p .records) (p .recordCount) (p .signature) instance) (kindOf cause) scan block)
+        (said (messageText (p .members) (p .memberCount) action cause (p .records) (p .recordCount) (p .signature) instance)
+        (kindOf cause) scan block)
         out →
         Reports answer left
     unfolding saidOf messageOf

@@ -36,7 +36,9 @@ module _ (scan depth room : ℕ) where
       (Traced scan block Other ≡ traceOf scan depth walked) × Cleared left walked
   failing (lacks i) block left e = let z : _≡_ {A = ℕ} 0 1 = cc in absurd (omega arith)
   failing (fits (done slots count)) block left e = let z : _≡_ {A = ℕ} 0 1 = cc in absurd (omega arith)
-  failing (fits (failed count reason)) block left e = let same : block ≡ count = cc in (ap (λ (k : ℕ). Traced scan k Other) same, λ l. l)
+  failing (fits (failed count reason)) block left e =
+      let same : block ≡ count = cc in
+      (ap (λ (k : ℕ). Traced scan k Other) same, λ l. l)
 
   -- the slots of a walk that is done, in the cells that it leaves
   pub record Finished (walked : Roomed ℕ) (height block : ℕ) : Type 0 where
@@ -52,7 +54,9 @@ module _ (scan depth room : ℕ) where
       let size : height ≡ length slots = cc in
       record { slots = slots; walked-so = ap (λ (k : ℕ). fits (done slots k)) (sym same); high = size }
 
-  module _ (walked : Roomed ℕ) (height block : ℕ) (f : Finished walked height block) (left : List ℕ) (leaves : left ≡ cellsOf room walked) where
+  module _
+      (walked : Roomed ℕ) (height block : ℕ) (f : Finished walked height block)
+      (left : List ℕ) (leaves : left ≡ cellsOf room walked) where
     left-is : left ≡ shown room (f .slots)
     left-is = leaves ∙ ap (cellsOf room) (f .walked-so)
 

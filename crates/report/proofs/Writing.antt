@@ -18,7 +18,8 @@ module _ (message : List ℕ) (kind scan block : ℕ) (out : List ℕ) where
   measured size after w = w .place ∙ ap (λ (k : ℕ). min k most) (zero-add (length message))
 
   abbrev pub Ends : Report → List ℕ → Type 0
-  Ends answer left = (answer ≡ answerBy (said message kind scan block) (length out)) × (left ≡ outputBy (said message kind scan block) out)
+  Ends answer left =
+      (answer ≡ answerBy (said message kind scan block) (length out)) × (left ≡ outputBy (said message kind scan block) out)
 
   pub no-room : (size : ℕ) (after : List ℕ) → Written 0 message [] size after → length out < size → Ends (NoOutput size) out
   no-room size after w more =
@@ -32,4 +33,5 @@ module _ (message : List ℕ) (kind scan block : ℕ) (out : List ℕ) where
   room size after w small fits end left written =
       let e : size ≡ min (length message) most = measured size after w in
       let whole : size ≡ length message = omega arith in
-      rw (le-leb (length message) (length out) (omega arith)) (ap (λ (k : ℕ). Message k kind scan block) whole, written .bytes)
+      rw (le-leb (length message) (length out) (omega arith))
+      (ap (λ (k : ℕ). Message k kind scan block) whole, written .bytes)

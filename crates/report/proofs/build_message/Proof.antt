@@ -1,3 +1,5 @@
+-- `report::build_message` meets its contract. The parts of a case lie in it; what is reported on them is what is reported on it.
+-- Assumes nothing.
 use native.Mathlib.Omega.{arith}
 use mathlib.Core.Path.{refl, sym, _∙_, subst}
 use lib.ListN.{length}
@@ -29,10 +31,15 @@ clear-requires-2 c κs = search needs
 enum-known-places : tie.Need-enum-known-places
 enum-known-places c = search needs
 
-inside : (c : tie.After-known-told2) → Inside (length (c .before .before .before .before .before .before .before .args .case .now)) (Parts (c .before .places .given .0 .0))
+-- the parts that are read lie in the case
+inside :
+    (c : tie.After-known-told2) →
+    Inside (length (c .before .before .before .before .before .before .before .args .case .now))
+    (Parts (c .before .places .given .0 .0))
 inside c =
     let case = c .before .before .before .before .before .before .before .args .case .now in
-    subst (λ (x : Case). Inside (length case) x) (c .before .places .given .1) (parts-inside case _ (c .before .before .before .read-case .ensures))
+    subst (λ (x : Case). Inside (length case) x) (c .before .places .given .1)
+    (parts-inside case _ (c .before .before .before .read-case .ensures))
 
 add-code-end : tie.Need-add-code-end
 add-code-end c = omega (arith, inside (c .before))
@@ -91,8 +98,8 @@ same-length c = search needs
 returns : tie.Need-returns
 unfolding reportOf reportedIn
 returns c =
-    let a = c .before .before .before .before .before .before .before .before .before .before .args in
-    let told = sym (c .before .before .before .before .before .before .read-case .ensures) ∙ c .before .before .before .before .enum-told .given .1 in
+    let read = c .before .before .before .before .before .before in
+    let told = sym (read .read-case .ensures) ∙ c .before .before .before .before .enum-told .given .1 in
     (rw told refl, (rw told refl, c .before .before .clear .ensures))
 
 same-length-2 : tie.Need-same-length-2
@@ -101,8 +108,8 @@ same-length-2 c = search needs
 returns-2 : tie.Need-returns-2
 unfolding reportOf reportedIn
 returns-2 c =
-    let a = c .before .before .before .before .before .before .before .before .before .before .before .args in
-    let told = sym (c .before .before .before .before .before .before .before .read-case .ensures) ∙ c .before .before .before .before .before .at .given .1 in
+    let wrong = c .before .before .before .before .before in
+    let told = sym (wrong .before .before .read-case .ensures) ∙ wrong .at .given .1 in
     (rw told refl, (rw told refl, c .before .before .clear2 .ensures))
 
 same-length-3 : tie.Need-same-length-3
@@ -114,8 +121,12 @@ same-length-4 c = search needs
 returns-3 : tie.Need-returns-3
 unfolding reportOf reportedIn
 returns-3 c =
-    let told = sym (c .before .before .before .before .before .before .before .before .before .before .before .before .before .before .before .before .before .before .read-case .ensures) ∙ c .before .before .before .before .before .before .before .before .before .before .before .before .before .before .before .before .places .given .1 in
-    rw (told, ← parts-are (now (c .before .before .before .before .before .before .before .before .before .before .before .before .before .before .before .before .before .before .before .before .before .before .args .case)) (c .before .before .before .before .before .before .before .before .before .before .before .before .before .before .before .before .places .given .0 .0)) (c .before .before .before .before .report-parts .ensures)
+    let parted = c .before .before .before .before .before .before .before .before in
+    let read = parted .before .before .before .before .before .before .before .before in
+    let a = read .before .before .before .before .before .before .args in
+    let told = sym (read .before .before .read-case .ensures) ∙ read .places .given .1 in
+    rw (told, ← parts-are (now (a .case)) (read .places .given .0 .0))
+    (c .before .before .before .before .report-parts .ensures)
 
 pub build-message-spec : {M : Type 1} → statement M
 build-message-spec =

@@ -1,3 +1,5 @@
+-- `report::is_instance` meets its contract, by computing.
+-- Assumes nothing.
 use mathlib.Core.Path.{refl}
 use Rattle.report.specs.Report.{isInstance}
 use Rattle.report.proofs.is_instance.Statement.{statement}

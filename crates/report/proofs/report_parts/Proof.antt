@@ -1,3 +1,5 @@
+-- `report::report_parts` meets its contract. By what the fault decodes to, then by its trace.
+-- Assumes nothing.
 use mathlib.Core.Path.{sym, _∙_}
 use lib.ListN.{length}
 use borrow.Author.Needs.{needs}
@@ -24,9 +26,13 @@ same-length c = search needs
 
 returns : tie.Need-returns
 returns c =
-    let a = c .before .before .before .before .before .before .before .before .before .before .before .before .before .args in
-    let p = partsBy (a .flags) (a .at) (now (a .code)) (now (a .signature)) (now (a .members)) (a .member-count) (now (a .records)) (a .record-count) in
-    let told = reporting.is-silent p (length (now (a .stack))) (now (a .out)) (sym (c .before .before .before .before .before .before .decode-fault .ensures) ∙ c .before .before .before .before .enum-told .given .1) in
+    let none = c .before .before .before .before in
+    let a = none .before .before .before .before .before .before .before .before .before .args in
+    let p = partsBy (a .flags) (a .at) (now (a .code)) (now (a .signature)) (now (a .members)) (a .member-count)
+    (now (a .records)) (a .record-count) in
+    let told =
+    reporting.is-silent p (length (now (a .stack))) (now (a .out))
+    (sym (none .before .before .decode-fault .ensures) ∙ none .enum-told .given .1) in
     (told .0, (told .1, c .before .before .clear .ensures))
 
 trace-cause-requires : tie.Need-trace-cause-requires
@@ -49,11 +55,16 @@ same-length-2 c = search needs
 
 returns-2 : tie.Need-returns-2
 returns-2 c =
-    let a = c .before .before .before .before .before .before .before .before .before .before .before .before .before .before .before .before .before .args in
-    let p = partsBy (a .flags) (a .at) (now (a .code)) (now (a .signature)) (now (a .members)) (a .member-count) (now (a .records)) (a .record-count) in
-    let told = reporting.is-roomless p (length (now (a .stack))) (now (a .out)) _ _ _ (sym (c .before .before .before .before .before .before .before .before .before .before .decode-fault .ensures) ∙ c .before .before .before .before .before .before .before .before .action .given .1)
-    (sym (c .before .before .before .before .before .trace-cause .ensures .0) ∙ c .before .index .given .1) in
-    (told .0, (told .1, c .before .before .before .before .before .trace-cause .ensures .1))
+    let trace = c .before .before .before .before .before in
+    let decode = trace .before .before .before in
+    let a = decode .before .before .before .before .before .before .before .before .before .args in
+    let p = partsBy (a .flags) (a .at) (now (a .code)) (now (a .signature)) (now (a .members)) (a .member-count)
+    (now (a .records)) (a .record-count) in
+    let told =
+    reporting.is-roomless p (length (now (a .stack))) (now (a .out)) _ _ _
+    (sym (decode .before .before .decode-fault .ensures) ∙ decode .action .given .1)
+    (sym (trace .trace-cause .ensures .0) ∙ c .before .index .given .1) in
+    (told .0, (told .1, trace .trace-cause .ensures .1))
 
 same-length-3 : tie.Need-same-length-3
 same-length-3 c = search needs
@@ -63,11 +74,19 @@ same-length-4 c = search needs
 
 returns-3 : tie.Need-returns-3
 returns-3 c =
-    let a = c .before .before .before .before .before .before .before .before .before .before .before .before .before .before .before .before .before .before .before .before .before .before .args in
-    let p = partsBy (a .flags) (a .at) (now (a .code)) (now (a .signature)) (now (a .members)) (a .member-count) (now (a .records)) (a .record-count) in
-    let told = reporting.is-said p (length (now (a .stack))) (now (a .out)) _ _ _ _ _ (sym (c .before .before .before .before .before .before .before .before .before .before .before .before .before .before .before .decode-fault .ensures) ∙ c .before .before .before .before .before .before .before .before .before .before .before .before .before .action .given .1)
-    (sym (c .before .before .before .before .before .before .before .before .before .before .trace-cause .ensures .0) ∙ c .before .before .before .before .before .before .scan .given .1) _ (c .before .before .before .before .is-instance .ensures) _ _ (c .before .before .write-message .ensures .0) (c .before .before .write-message .ensures .1) in
-    (told .0, (told .1, c .before .before .before .before .before .before .before .before .before .before .trace-cause .ensures .1))
+    let traced = c .before .before .before .before .before .before in
+    let trace = traced .before .before .before .before in
+    let decode = trace .before .before .before in
+    let a = decode .before .before .before .before .before .before .before .before .before .args in
+    let p = partsBy (a .flags) (a .at) (now (a .code)) (now (a .signature)) (now (a .members)) (a .member-count)
+    (now (a .records)) (a .record-count) in
+    let told =
+    reporting.is-said p (length (now (a .stack))) (now (a .out)) _ _ _ _ _
+    (sym (decode .before .before .decode-fault .ensures) ∙ decode .action .given .1)
+    (sym (trace .trace-cause .ensures .0) ∙ traced .scan .given .1) _
+    (c .before .before .before .before .is-instance .ensures) _ _
+    (c .before .before .write-message .ensures .0) (c .before .before .write-message .ensures .1) in
+    (told .0, (told .1, trace .trace-cause .ensures .1))
 
 pub report-parts-spec : {M : Type 1} → statement M
 report-parts-spec =

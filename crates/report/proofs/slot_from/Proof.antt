@@ -1,3 +1,5 @@
+-- `report::slot_from` meets its contract. The cell is read only where the height exceeds the depth.
+-- Assumes nothing.
 use borrow.Author.Needs.{needs}
 use borrow.Author.Tests.{lt-ltb, le-ltb}
 use Rattle.report.proofs.slot_from.Statement.{statement}
@@ -19,7 +21,9 @@ unpack-requires : tie.Need-unpack-requires
 unpack-requires c κs = search needs
 
 returns : tie.Need-returns
-returns c = rw (lt-ltb (c .before .before .before .before .args .depth) (c .before .before .before .before .args .height) (c .before .before .if1 .taken)) (c .unpack .ensures)
+returns c =
+    let a = c .before .before .before .before .args in
+    rw (lt-ltb (a .depth) (a .height) (c .before .before .if1 .taken)) (c .unpack .ensures)
 
 returns-2 : tie.Need-returns-2
 returns-2 c = rw (le-ltb (c .before .before .args .depth) (c .before .before .args .height) (c .if1 .left))

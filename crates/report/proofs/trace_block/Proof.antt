@@ -1,3 +1,5 @@
+-- `report::trace_block` meets its contract. The cells at exit are the walk's slots; its answer tells which.
+-- Assumes nothing.
 use Prim.Native.Nat.{ℕ}
 use native.Mathlib.Omega.{arith}
 use mathlib.Core.Path.{_≡_, sym, ap, _∙_}
@@ -23,10 +25,14 @@ enum-known-height c = search needs
 
 slot-from-requires : tie.Need-slot-from-requires
 slot-from-requires c κs =
-    let a = c .before .before .before .before .before .before .before .before .before .before .before .args in
-    let walked = blockWalk (now (a .code)) (now (a .members)) (a .count) (a .leader) (a .fault) (length (now (a .stack))) in
-    let done = tracing.finished (a .scan) (a .depth) (length (now (a .stack))) walked _ _ (sym (c .before .before .height .given .1) ∙ c .before .before .before .before .before .before .simulate-block .ensures .0) in
-    tracing.reaches (a .scan) (a .depth) (length (now (a .stack))) walked _ _ done _ (c .before .before .before .before .before .before .simulate-block .ensures .1)
+    let walk = c .before .before .before .before .before .before in
+    let a = walk .before .before .before .before .before .args in
+    let room : ℕ = length (now (a .stack)) in
+    let walked = blockWalk (now (a .code)) (now (a .members)) (a .count) (a .leader) (a .fault) room in
+    let done =
+    tracing.finished (a .scan) (a .depth) room walked _ _
+    (sym (c .before .before .height .given .1) ∙ walk .simulate-block .ensures .0) in
+    tracing.reaches (a .scan) (a .depth) room walked _ _ done _ (walk .simulate-block .ensures .1)
 
 clear-requires : tie.Need-clear-requires
 clear-requires c κs = search needs
@@ -36,32 +42,45 @@ same-length c = search needs
 
 returns : tie.Need-returns
 returns c =
-    let a = c .before .before .before .before .before .before .before .before .before .before .args in
-    let walked = blockWalk (now (a .code)) (now (a .members)) (a .count) (a .leader) (a .fault) (length (now (a .stack))) in
-    let told = tracing.lacked (a .scan) (a .depth) (length (now (a .stack))) walked _ _ (sym (c .before .at .given .1) ∙ c .before .before .before .before .before .simulate-block .ensures .0) in
-    (told .0, told .1 (c .before .before .before .before .before .simulate-block .ensures .1))
+    let walk = c .before .before .before .before .before in
+    let a = walk .before .before .before .before .before .args in
+    let room : ℕ = length (now (a .stack)) in
+    let walked = blockWalk (now (a .code)) (now (a .members)) (a .count) (a .leader) (a .fault) room in
+    let told =
+    tracing.lacked (a .scan) (a .depth) room walked _ _
+    (sym (c .before .at .given .1) ∙ walk .simulate-block .ensures .0) in
+    (told .0, told .1 (walk .simulate-block .ensures .1))
 
 same-length-2 : tie.Need-same-length-2
 same-length-2 c = search needs
 
 returns-2 : tie.Need-returns-2
 returns-2 c =
-    let a = c .before .before .before .before .before .before .before .before .before .before .args in
-    let walked = blockWalk (now (a .code)) (now (a .members)) (a .count) (a .leader) (a .fault) (length (now (a .stack))) in
-    let told = tracing.failing (a .scan) (a .depth) (length (now (a .stack))) walked _ _ (sym (c .before .block .given .1) ∙ c .before .before .before .before .before .simulate-block .ensures .0) in
-    (told .0, told .1 (c .before .before .before .before .before .simulate-block .ensures .1))
+    let walk = c .before .before .before .before .before in
+    let a = walk .before .before .before .before .before .args in
+    let room : ℕ = length (now (a .stack)) in
+    let walked = blockWalk (now (a .code)) (now (a .members)) (a .count) (a .leader) (a .fault) room in
+    let told =
+    tracing.failing (a .scan) (a .depth) room walked _ _
+    (sym (c .before .block .given .1) ∙ walk .simulate-block .ensures .0) in
+    (told .0, told .1 (walk .simulate-block .ensures .1))
 
 same-length-3 : tie.Need-same-length-3
 same-length-3 c = search needs
 
 returns-3 : tie.Need-returns-3
 returns-3 c =
-    let a = c .before .before .before .before .before .before .before .before .before .before .before .before .before .before .before .before .args in
-    let walked = blockWalk (now (a .code)) (now (a .members)) (a .count) (a .leader) (a .fault) (length (now (a .stack))) in
+    let looked = c .before .before .before .before in
+    let walk = looked .before .before .before .before .before .before .before in
+    let a = walk .before .before .before .before .before .args in
     let room : ℕ = length (now (a .stack)) in
-    let done = tracing.finished (a .scan) (a .depth) room walked _ _ (sym (c .before .before .before .before .before .before .before .height .given .1) ∙ c .before .before .before .before .before .before .before .before .before .before .before .simulate-block .ensures .0) in
-    let size : length (c .before .before .before .before .before .before .before .before .before .before .before .simulate-block .last .1 .1 .1 .1 .1 .0) ≡ room = omega arith in (
-      tracing.traces (a .scan) (a .depth) room walked _ _ done _ (c .before .before .before .before .before .before .before .before .before .before .before .simulate-block .ensures .1) _ (c .before .before .before .before .slot-from .ensures),
+    let walked = blockWalk (now (a .code)) (now (a .members)) (a .count) (a .leader) (a .fault) room in
+    let done =
+    tracing.finished (a .scan) (a .depth) room walked _ _
+    (sym (looked .before .before .before .height .given .1) ∙ walk .simulate-block .ensures .0) in
+    let size : length (walk .simulate-block .last .1 .1 .1 .1 .1 .0) ≡ room = omega arith in (
+      tracing.traces (a .scan) (a .depth) room walked _ _ done _ (walk .simulate-block .ensures .1) _
+          (looked .slot-from .ensures),
       c .before .before .clear .ensures ∙ ap (λ (k : ℕ). replicate k 0) size,
     )
 

@@ -1,3 +1,6 @@
+-- `report::trace_cause` meets its contract. By what the scan answers.
+-- Assumes nothing.
+use Prim.Native.Nat.{ℕ}
 use mathlib.Core.Path.{sym, ap, _∙_}
 use lib.ListN.{length}
 use borrow.Author.Needs.{needs}
@@ -28,10 +31,12 @@ same-length c = search needs
 returns : tie.Need-returns
 unfolding traced
 returns c =
-    let a = c .before .before .before .before .before .before .before .before .before .before .before .args in
-    let told = sym (c .before .before .before .before .before .before .before .block-leader .ensures) ∙ c .before .before .before .before .before .leader .given .1 in (
+    let scanned = c .before .before .before .before .before in
+    let a = scanned .before .before .before .before .before .before .args in
+    let told = sym (scanned .before .before .block-leader .ensures) ∙ scanned .leader .given .1 in
+    let room : ℕ = length (now (a .stack)) in (
       c .before .before .trace-block .ensures .0
-          ∙ sym (ap (λ (s : Scan). tracedBy (now (a .code)) (now (a .members)) (a .count) (a .fault) (a .depth) (length (now (a .stack))) s) told),
+          ∙ sym (ap (λ (s : Scan). tracedBy (now (a .code)) (now (a .members)) (a .count) (a .fault) (a .depth) room s) told),
       c .before .before .trace-block .ensures .1,
     )
 
@@ -41,9 +46,11 @@ same-length-2 c = search needs
 returns-2 : tie.Need-returns-2
 unfolding traced
 returns-2 c =
-    let a = c .before .before .before .before .before .before .before .before .before .before .before .args in
-    let told = sym (c .before .before .before .before .before .before .before .block-leader .ensures) ∙ c .before .before .before .before .before .scan .given .1 in (
-      sym (ap (λ (s : Scan). tracedBy (now (a .code)) (now (a .members)) (a .count) (a .fault) (a .depth) (length (now (a .stack))) s) told),
+    let scanned = c .before .before .before .before .before in
+    let a = scanned .before .before .before .before .before .before .args in
+    let told = sym (scanned .before .before .block-leader .ensures) ∙ scanned .scan .given .1 in
+    let room : ℕ = length (now (a .stack)) in (
+      sym (ap (λ (s : Scan). tracedBy (now (a .code)) (now (a .members)) (a .count) (a .fault) (a .depth) room s) told),
       c .before .before .clear .ensures,
     )
 
