@@ -1,4 +1,4 @@
--- `fault::decode_fault` meets its contract. Each arm by what its opcode decodes to; an opcode between the arms decodes to nothing.
+-- `fault::decode_fault` meets its contract. Each arm by its opcode; between the arms nothing is decoded.
 -- Assumes nothing.
 use Prim.Native.Nat.{ℕ}
 use native.Mathlib.Omega.{arith}

@@ -1,4 +1,4 @@
--- `message::put_cause_at` meets its contract. Nothing is written for a slot that holds no load, else three writers one after the other.
+-- `message::put_cause_at` meets its contract. Nothing without a load, else three writers, one after the other.
 -- Assumes nothing.
 use native.Mathlib.Omega.{arith}
 use borrow.Author.Needs.{needs}

@@ -1,4 +1,4 @@
--- `report::build_message` meets its contract. The parts of a case lie in it; what is reported on them is what is reported on it.
+-- `report::build_message` meets its contract. The parts lie in the case, and a report on them is one on it.
 -- Assumes nothing.
 use native.Mathlib.Omega.{arith}
 use mathlib.Core.Path.{refl, sym, _∙_, subst}
