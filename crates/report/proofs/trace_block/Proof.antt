@@ -1,4 +1,4 @@
--- `report::trace_block` meets its contract. The cells at exit are the walk's slots; its answer tells which.
+-- `report::trace_block` meets its contract. By the walk's answer; its slots stand in the cells that it leaves.
 -- Assumes nothing.
 use Prim.Native.Nat.{ℕ}
 use native.Mathlib.Omega.{arith}
