@@ -1,30 +1,28 @@
 -- What the faulting instruction decodes to, by the tests that the code makes.
 -- Assumes nothing.
 use Prim.Native.Nat.{ℕ, _+_, _-_, _≤_, _<_}
+use native.Mathlib.Nat.{eq-or-lt-of-le}
 use native.Mathlib.Omega.{arith}
-use mathlib.Core.Path.{_≡_, refl, _∙_, sym, ap}
 use mathlib.Core.Bool.{Bool, true, false}
 use mathlib.Core.List.{List, [], _∷_}
-use lib.Dec.{T, eqb, leb}
-use lib.ListN.{length}
 use mathlib.Core.Logic.{⊎-elim}
-use native.Mathlib.Nat.{eq-or-lt-of-le}
+use mathlib.Core.Path.{_≡_, refl}
+use lib.Dec.{T}
+use lib.ListN.{length}
 use borrow.Author.Tests.{lt-ltb, le-ltb, ne-eqb, le-leb, lt-leb}
 use Rattle.basics.specs.Ascii.{ascii}
 use Rattle.basics.specs.Bytes.{byteAt, u16At}
-use Rattle.basics.specs.Choice.{pick, both, oneOf, between, sameList}
-use Rattle.basics.proofs.Every.{every, every-from}
+use Rattle.basics.specs.Choice.{pick, both, oneOf, sameList}
 use Rattle.casefile.specs.Member.{memberFound}
 use Rattle.casefile.specs.Text.{nameOf, descriptorOf}
 use Rattle.descriptor.specs.Readers.{parameters, fieldSlots}
 use Rattle.descriptor.specs.declared.Params.the-variants.{Read, Unreadable}
 use Rattle.effects.specs.Depth.{Rule, none, fixed, reads, writes, invokes as invokesRule, ruleOf, depthBy, depthOf}
-use Rattle.effects.specs.Lookup.{Lookup, lookupIn}
-use Rattle.effects.proofs.Known.{known-none, known-some}
+use Rattle.effects.specs.Lookup.{lookupIn}
 use Rattle.fault.specs.Decoding.{invokes, actionOf, constructs, failedAt, decoded, decodedAs}
 use Rattle.fault.specs.declared.Action.the-variants.{ReadField, AssignField, Invoke, LoadArray, StoreArray}
-use Rattle.fault.specs.declared.Fault.{Fault}
 use Rattle.fault.specs.declared.Fault.the-variants.{Failed, Nothing}
+use Rattle.effects.proofs.Known.{known-none, known-some}
 
 either : (b : Bool) → Nothing ≡ pick b Nothing Nothing
 either true = refl
@@ -37,7 +35,9 @@ module _ (code members : List ℕ) (count fault : ℕ) where
       rw (le-ltb fault (length code) l)
       (either (both (invokes (byteAt code fault)) (constructs members count (u16At code (fault + 1)))))
 
-  pub inside : (op : ℕ) → fault < length code → byteAt code fault ≡ op → decodedAs op code members count fault ≡ decoded code members count fault
+  pub inside :
+      (op : ℕ) → fault < length code → byteAt code fault ≡ op →
+      decodedAs op code members count fault ≡ decoded code members count fault
   unfolding decoded decodedAs depthOf
   inside op l e = rw (lt-ltb fault (length code) l, e)
 
@@ -79,7 +79,8 @@ module _ (code members : List ℕ) (count fault : ℕ) where
       pub invoke-missing : length texts ≡ 0 → Nothing ≡ decodedAs 182 code members count fault
       unfolding decodedAs ruleOf actionOf lookupIn
       invoke-missing empty =
-          rw (lt-ltb (fault + 2) (length code) whole, ← cites, ← found, known-none texts empty) (either (constructs members count index))
+          rw (lt-ltb (fault + 2) (length code) whole, ← cites, ← found, known-none texts empty)
+          (either (constructs members count index))
 
       module _ (some : length texts ≡ 0 → ⊥) where
         pub constructor : sameList (nameOf texts) (ascii "<init>") ≡ true → Nothing ≡ decodedAs 182 code members count fault
@@ -95,7 +96,8 @@ module _ (code members : List ℕ) (count fault : ℕ) where
               (slots end : ℕ) → parameters (descriptorOf texts) ≡ Read slots end →
               Failed (Invoke index) slots ≡ decodedAs 182 code members count fault
           unfolding decodedAs ruleOf actionOf lookupIn constructs
-          invokes-method slots end p = rw (lt-ltb (fault + 2) (length code) whole, ← cites, ← found, known-some texts some, other, p)
+          invokes-method slots end p =
+              rw (lt-ltb (fault + 2) (length code) whole, ← cites, ← found, known-some texts some, other, p)
 
   -- ---- opcodes
 
@@ -138,7 +140,8 @@ module _ (code members : List ℕ) (count fault : ℕ) where
       by-test false = refl
 
   -- 183 and 185 are as 182
-  pub as-special : (op : ℕ) → 182 ≤ op → op < 184 → decodedAs 182 code members count fault ≡ decodedAs op code members count fault
+  pub as-special :
+      (op : ℕ) → 182 ≤ op → op < 184 → decodedAs 182 code members count fault ≡ decodedAs op code members count fault
   unfolding decodedAs ruleOf actionOf
   as-special op l u =
       ⊎-elim

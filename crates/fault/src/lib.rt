@@ -3,9 +3,9 @@
 use check::same;
 use descriptor::Params;
 use opcode::Opcode;
-ghost use mathlib.Core.Path.{_≡_};
-ghost use mathlib.Core.List.{[], _∷_};
 ghost use Prim.Native.Nat.{_-_, _≤_, _<_};
+ghost use mathlib.Core.List.{[], _∷_};
+ghost use mathlib.Core.Path.{_≡_};
 ghost use lib.ListN.{length};
 ghost use Rattle.basics.specs.Choice.{pick, oneOf};
 ghost use Rattle.fault.specs.Decoding.{decoded, decodedAs};

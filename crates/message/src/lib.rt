@@ -3,11 +3,10 @@
 use block::Slot;
 use fault::Action;
 use text::put_at;
-ghost use mathlib.Core.Path.{_≡_};
-ghost use mathlib.Core.List.{_++_};
-ghost use Rattle.text.specs.Writing.{Written};
 ghost use Rattle.message.specs.Message.{elementText, quoted, methodText, invokeText, arrayText, actionText, causeText, messageText};
+ghost use Rattle.text.specs.Writing.{Written};
 
+// The element type's word, by its place in the order of the opcodes.
 fn put_element_at(out: &mut [u8], at: usize, element: usize) -> usize
     ensures { λ r. ⌜ Written at (elementText element) (now (out .entry)) r (now (out .exit)) ⌝ }
 {
@@ -23,6 +22,7 @@ fn put_element_at(out: &mut [u8], at: usize, element: usize) -> usize
     }
 }
 
+// Words, then a name in quotes.
 fn put_quoted_at(out: &mut [u8], at: usize, words: &[u8], name: &[u8]) -> usize
     ensures { λ r. ⌜ Written at (quoted (now (words .entry)) (now (name .entry))) (now (out .entry)) r (now (out .exit)) ⌝ }
 {
@@ -32,6 +32,7 @@ fn put_quoted_at(out: &mut [u8], at: usize, words: &[u8], name: &[u8]) -> usize
     put_at(out, end, b"\"")
 }
 
+// Words, then the element type of an array.
 fn put_array_at(out: &mut [u8], at: usize, words: &[u8], element: usize) -> usize
     ensures { λ r. ⌜ Written at (arrayText (now (words .entry)) element) (now (out .entry)) r (now (out .exit)) ⌝ }
 {
@@ -49,6 +50,7 @@ fn put_method_at(out: &mut [u8], at: usize, texts: &[u8]) -> usize
     put_at(out, name, casefile::name_of(texts))
 }
 
+// The invocation of a method: its class, its name and its parameter types, of the part that holds its texts.
 fn put_invoke_at(out: &mut [u8], at: usize, texts: &[u8]) -> usize
     ensures { λ r. ⌜ Written at (invokeText (now (texts .entry))) (now (out .entry)) r (now (out .exit)) ⌝ }
 {

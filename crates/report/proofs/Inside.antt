@@ -1,10 +1,10 @@
 -- The parts of a case that is read lie in it.
 -- Assumes nothing.
-use Prim.Native.Nat.{ℕ, _+_, _-_, _≤_, _<_}
+use Prim.Native.Nat.{ℕ, _+_, _≤_}
 use native.Mathlib.Omega.{arith}
-use mathlib.Core.Path.{_≡_, subst}
 use mathlib.Core.Bool.{Bool, true, false}
 use mathlib.Core.List.{List}
+use mathlib.Core.Path.{_≡_}
 use lib.Dec.{ltb}
 use lib.ListN.{length}
 use Rattle.basics.specs.Choice.{pick}
@@ -12,17 +12,17 @@ use Rattle.casefile.specs.Layout.{runWithin, membersThen, recordsThen, ended, r
 use Rattle.casefile.specs.Number.{greatest, numberAt, numberWithin, thenNumber}
 use Rattle.casefile.specs.Text.{textAt, textWithin, thenText}
 use Rattle.casefile.specs.Whole.{tablesAt, thenTables, placesIn, longest, caseOf}
-use Rattle.casefile.specs.declared.Case.{Case}
 use Rattle.casefile.specs.declared.Case.the-variants.{Parts, Wrong, TooLong}
-use Rattle.casefile.specs.declared.Number.{Number}
+use Rattle.casefile.specs.declared.Case.{Case}
 use Rattle.casefile.specs.declared.Number.the-variants.{Value, NotNumber}
-use Rattle.casefile.specs.declared.Run.{Run}
+use Rattle.casefile.specs.declared.Number.{Number}
 use Rattle.casefile.specs.declared.Run.the-variants as run
-use Rattle.casefile.specs.declared.Tables.{Tables}
-use Rattle.casefile.specs.declared.Tables.the-variants as tables
+use Rattle.casefile.specs.declared.Run.{Run}
 use Rattle.casefile.specs.declared.TablePlaces.{TablePlaces}
-use Rattle.casefile.specs.declared.Text.{Text}
+use Rattle.casefile.specs.declared.Tables.the-variants as tables
+use Rattle.casefile.specs.declared.Tables.{Tables}
 use Rattle.casefile.specs.declared.Text.the-variants.{Place, NotText}
+use Rattle.casefile.specs.declared.Text.{Text}
 use Rattle.casefile.proofs.Laws.{number-within, text-within, run-within}
 
 -- what holds of the answer at a wrong item, and of what follows a right one, holds of the whole
@@ -35,7 +35,8 @@ module _ {A : Type 0} (P : A → Type 0) where
 
   by-text :
       (size at : ℕ) (x : Text) (wrong : A) (following : ℕ → ℕ → A) → textWithin size at x → P wrong →
-      ((start length : ℕ) → textWithin size at (Place start length) → P (following start length)) → P (thenText x wrong following)
+      ((start length : ℕ) → textWithin size at (Place start length) → P (following start length)) →
+      P (thenText x wrong following)
   by-text size at (Place start n) wrong following within p go = go start n within
   by-text size at NotText wrong following within p go = p
 
@@ -72,7 +73,8 @@ module _ (bytes : List ℕ) where
       by-run (TablesInside size) size members (runBy (membersThen memberCount 0 ended) bytes members) _ _
       (run-within (membersThen memberCount 0 ended) bytes members) (λ place. tt)
       (λ membersEnd j.
-      by-number (TablesInside size) greatest size membersEnd (numberAt greatest bytes membersEnd) _ _ (number-within greatest bytes membersEnd) tt
+      by-number (TablesInside size) greatest size membersEnd (numberAt greatest bytes membersEnd) _ _
+      (number-within greatest bytes membersEnd) tt
       (λ recordCount records k.
       by-run (TablesInside size) size records (runBy (recordsThen recordCount ended) bytes records) _ _
       (run-within (recordsThen recordCount ended) bytes records) (λ place. tt)
@@ -80,8 +82,10 @@ module _ (bytes : List ℕ) where
       (omega (arith, j .0, j .1 (i .2)), omega (arith, l .0, l .1 (k .2)))))))
 
   by-tables :
-      (x : Tables) (wrong : ℕ → Case) (following : TablePlaces → Case) → TablesInside size x → ((place : ℕ) → Inside size (wrong place)) →
-      ((t : TablePlaces) → TablesInside size (tables.Read t) → Inside size (following t)) → Inside size (thenTables x wrong following)
+      (x : Tables) (wrong : ℕ → Case) (following : TablePlaces → Case) →
+      TablesInside size x → ((place : ℕ) → Inside size (wrong place)) →
+      ((t : TablePlaces) → TablesInside size (tables.Read t) → Inside size (following t)) →
+      Inside size (thenTables x wrong following)
   by-tables (tables.Read t) wrong following within p go = go t within
   by-tables (tables.Wrong place) wrong following within p go = p place
 
@@ -90,11 +94,13 @@ module _ (bytes : List ℕ) where
   places-inside =
       by-number (Inside size) greatest size 0 (numberAt greatest bytes 0) _ _ (number-within greatest bytes 0) tt
       (λ flags faultAt h.
-      by-number (Inside size) greatest size faultAt (numberAt greatest bytes faultAt) _ _ (number-within greatest bytes faultAt) tt
+      by-number (Inside size) greatest size faultAt (numberAt greatest bytes faultAt) _ _
+      (number-within greatest bytes faultAt) tt
       (λ fault codeAt i.
       by-text (Inside size) size codeAt (textAt bytes codeAt) _ _ (text-within bytes codeAt) tt
       (λ code codeLength j.
-      by-text (Inside size) size (code + codeLength) (textAt bytes (code + codeLength)) _ _ (text-within bytes (code + codeLength)) tt
+      by-text (Inside size) size (code + codeLength) (textAt bytes (code + codeLength)) _ _
+      (text-within bytes (code + codeLength)) tt
       (λ signature signatureLength k.
       by-tables (tablesAt bytes (signature + signatureLength)) _ _ (tables-inside (signature + signatureLength)) (λ place. tt)
       (λ t l. (j .2, k .2, l .0, l .1))))))

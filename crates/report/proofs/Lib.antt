@@ -1,3 +1,4 @@
+pub mod Answers
 pub mod Inside
 pub mod Reporting
 pub mod Tracing

@@ -2,21 +2,21 @@
 -- Assumes nothing.
 use Prim.Native.Nat.{ℕ, _+_, _-_}
 use native.Mathlib.Omega.{arith}
-use mathlib.Core.Path.{_≡_, refl, _∙_, sym, ap}
 use mathlib.Core.Bool.{Bool}
 use mathlib.Core.List.{List}
+use mathlib.Core.Path.{_≡_, refl}
 use lib.ListN.{length, take, drop}
+use Rattle.block.specs.declared.Slot.{Slot}
 use Rattle.casefile.specs.Parts.{Parts, partsOf}
 use Rattle.casefile.specs.declared.Places.{Places}
-use Rattle.block.specs.declared.Slot.{Slot}
 use Rattle.fault.specs.Decoding.{decoded}
 use Rattle.fault.specs.declared.Action.{Action}
 use Rattle.fault.specs.declared.Fault.the-variants.{Failed, Nothing}
 use Rattle.message.specs.Message.{messageText}
 use Rattle.report.specs.Report.{isInstance, kindOf, messageOf, partsBy, said, saidOf, answerBy, outputBy}
 use Rattle.report.specs.Trace.{traced}
-use Rattle.report.specs.declared.Report.{Report}
 use Rattle.report.specs.declared.Report.the-variants as report
+use Rattle.report.specs.declared.Report.{Report}
 use Rattle.report.specs.declared.Trace.the-variants.{NoRoom, Traced}
 
 module _ (p : Parts) (room : ℕ) (out : List ℕ) where
@@ -30,7 +30,8 @@ module _ (p : Parts) (room : ℕ) (out : List ℕ) where
   module _ (action : Action) (depth : ℕ) where
     pub is-roomless :
         (index : ℕ) → decoded (p .code) (p .members) (p .memberCount) (p .fault) ≡ Failed action depth →
-        traced (p .code) (p .members) (p .memberCount) (p .fault) depth room ≡ NoRoom index → Reports (report.NoRoom index) out
+        traced (p .code) (p .members) (p .memberCount) (p .fault) depth room ≡ NoRoom index →
+        Reports (report.NoRoom index) out
     unfolding saidOf
     is-roomless index e t = rw (e, t) (refl, refl)
 
@@ -40,11 +41,13 @@ module _ (p : Parts) (room : ℕ) (out : List ℕ) where
         (instance : Bool) → instance ≡ isInstance (p .flags) → (answer : Report) (left : List ℕ) →
         answer
         ≡ answerBy
-        (said (messageText (p .members) (p .memberCount) action cause (p .records) (p .recordCount) (p .signature) instance) (kindOf cause) scan block)
+        (said (messageText (p .members) (p .memberCount) action cause (p .records) (p .recordCount) (p .signature) instance)
+        (kindOf cause) scan block)
         (length out) →
         left
         ≡ outputBy
-        (said (messageText (p .members) (p .memberCount) action cause (p .records) (p .recordCount) (p .signature) instance) (kindOf cause) scan block)
+        (said (messageText (p .members) (p .memberCount) action cause (p .records) (p .recordCount) (p .signature) instance)
+        (kindOf cause) scan block)
         out →
         Reports answer left
     unfolding saidOf messageOf

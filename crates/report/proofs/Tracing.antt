@@ -1,10 +1,10 @@
 -- What the walk's answer and its cells tell of the trace.
 -- Assumes nothing.
-use Prim.Native.Nat.{ℕ, _+_, _-_, _≤_, _<_}
+use Prim.Native.Nat.{ℕ, _-_, _≤_, _<_}
 use native.Mathlib.Omega.{arith}
-use mathlib.Core.Path.{_≡_, refl, _∙_, sym, ap}
 use mathlib.Core.Bool.{Bool, true, false}
 use mathlib.Core.List.{List}
+use mathlib.Core.Path.{_≡_, refl, _∙_, sym, ap}
 use lib.Dec.{ltb}
 use lib.ListN.{length, getD, take, replicate, length-append}
 use lib.Seq.{getD-take, take-at}
@@ -13,8 +13,8 @@ use Rattle.basics.specs.Choice.{pick}
 use Rattle.block.specs.Cells.{unpacked}
 use Rattle.block.specs.Room.{Roomed, lacks, fits, answerOf, shown, cellsOf}
 use Rattle.block.specs.Walk.{done, failed}
-use Rattle.block.specs.declared.Slot.{Slot}
 use Rattle.block.specs.declared.Slot.the-variants.{Other}
+use Rattle.block.specs.declared.Slot.{Slot}
 use Rattle.block.specs.declared.Walk.the-variants.{Done, Failed, NoRoom}
 use Rattle.report.specs.Trace.{slotFrom, traceOf}
 use Rattle.report.specs.declared.Trace.the-variants.{NoRoom as LacksRoom, Traced}
@@ -36,7 +36,9 @@ module _ (scan depth room : ℕ) where
       (Traced scan block Other ≡ traceOf scan depth walked) × Cleared left walked
   failing (lacks i) block left e = let z : _≡_ {A = ℕ} 0 1 = cc in absurd (omega arith)
   failing (fits (done slots count)) block left e = let z : _≡_ {A = ℕ} 0 1 = cc in absurd (omega arith)
-  failing (fits (failed count reason)) block left e = let same : block ≡ count = cc in (ap (λ (k : ℕ). Traced scan k Other) same, λ l. l)
+  failing (fits (failed count reason)) block left e =
+      let same : block ≡ count = cc in
+      (ap (λ (k : ℕ). Traced scan k Other) same, λ l. l)
 
   -- the slots of a walk that is done, in the cells that it leaves
   pub record Finished (walked : Roomed ℕ) (height block : ℕ) : Type 0 where
@@ -52,7 +54,9 @@ module _ (scan depth room : ℕ) where
       let size : height ≡ length slots = cc in
       record { slots = slots; walked-so = ap (λ (k : ℕ). fits (done slots k)) (sym same); high = size }
 
-  module _ (walked : Roomed ℕ) (height block : ℕ) (f : Finished walked height block) (left : List ℕ) (leaves : left ≡ cellsOf room walked) where
+  module _
+      (walked : Roomed ℕ) (height block : ℕ) (f : Finished walked height block)
+      (left : List ℕ) (leaves : left ≡ cellsOf room walked) where
     left-is : left ≡ shown room (f .slots)
     left-is = leaves ∙ ap (cellsOf room) (f .walked-so)
 

@@ -1,16 +1,16 @@
 -- A message is measured by writing it to no output, and written where there is room for all of it.
 -- Assumes nothing.
-use Prim.Native.Nat.{ℕ, _+_, _≤_, _<_, min}
+use Prim.Native.Nat.{ℕ, _≤_, _<_, min}
 use native.Mathlib.Nat.{zero-add}
 use native.Mathlib.Omega.{arith}
-use mathlib.Core.Path.{_≡_, refl, _∙_, sym, ap}
 use mathlib.Core.List.{List, []}
+use mathlib.Core.Path.{_≡_, refl, _∙_, ap}
 use lib.ListN.{length}
 use borrow.Author.Tests.{le-leb, lt-leb}
-use Rattle.text.specs.Writing.{most, over, splice, following, Written}
 use Rattle.report.specs.Report.{said, needed, answerBy, outputBy}
-use Rattle.report.specs.declared.Report.{Report}
 use Rattle.report.specs.declared.Report.the-variants.{Message, NoOutput}
+use Rattle.report.specs.declared.Report.{Report}
+use Rattle.text.specs.Writing.{most, splice, following, Written}
 
 module _ (message : List ℕ) (kind scan block : ℕ) (out : List ℕ) where
   measured : (size : ℕ) (after : List ℕ) → Written 0 message [] size after → size ≡ needed message
@@ -18,7 +18,8 @@ module _ (message : List ℕ) (kind scan block : ℕ) (out : List ℕ) where
   measured size after w = w .place ∙ ap (λ (k : ℕ). min k most) (zero-add (length message))
 
   abbrev pub Ends : Report → List ℕ → Type 0
-  Ends answer left = (answer ≡ answerBy (said message kind scan block) (length out)) × (left ≡ outputBy (said message kind scan block) out)
+  Ends answer left =
+      (answer ≡ answerBy (said message kind scan block) (length out)) × (left ≡ outputBy (said message kind scan block) out)
 
   pub no-room : (size : ℕ) (after : List ℕ) → Written 0 message [] size after → length out < size → Ends (NoOutput size) out
   no-room size after w more =
@@ -32,4 +33,5 @@ module _ (message : List ℕ) (kind scan block : ℕ) (out : List ℕ) where
   room size after w small fits end left written =
       let e : size ≡ min (length message) most = measured size after w in
       let whole : size ≡ length message = omega arith in
-      rw (le-leb (length message) (length out) (omega arith)) (ap (λ (k : ℕ). Message k kind scan block) whole, written .bytes)
+      rw (le-leb (length message) (length out) (omega arith))
+      (ap (λ (k : ℕ). Message k kind scan block) whole, written .bytes)

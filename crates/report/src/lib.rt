@@ -7,13 +7,11 @@ use fault::Action;
 use fault::Fault;
 use leader::Scan;
 use message::put_message_at;
+ghost use Prim.Native.Nat.{_-_, _≤_};
 ghost use mathlib.Core.Path.{_≡_};
-ghost use mathlib.Core.List.{List};
-ghost use Prim.Native.Nat.{ℕ, _-_, _≤_};
 ghost use lib.Dec.{ltb};
 ghost use lib.ListN.{length, getD, replicate};
 ghost use Rattle.basics.specs.Choice.{pick};
-ghost use Rattle.casefile.specs.Parts.{Parts};
 ghost use Rattle.block.specs.Cells.{unpacked};
 ghost use Rattle.block.specs.Room.{blockWalk};
 ghost use Rattle.block.specs.declared.Slot.the-variants.{Other};
@@ -127,6 +125,7 @@ fn trace_cause(
     }
 }
 
+// The kind of a message: 1 for the action alone, 2 for the action and the cause.
 fn kind_of(cause: Slot) -> usize
     ensures { λ r. ⌜ r ≡ kindOf cause ⌝ }
 {

@@ -1,166 +1,161 @@
-use Rattle.fault.proofs.Decode as decode
-use Rattle.fault.specs.Decoding.{actionOf, decodedAs}
-use Rattle.effects.specs.Depth.{ruleOf}
-use Rattle.basics.proofs.Keys.{every-unkeyed}
-use Rattle.basics.specs.Bytes.{byteAt}
-use denote.Ref.{now}
+-- `fault::decode_fault` meets its contract. Each arm by its opcode; between the arms nothing is decoded.
+-- Assumes nothing.
 use Prim.Native.Nat.{ℕ}
+use native.Mathlib.Omega.{arith}
 use mathlib.Core.List.{List, [], _∷_}
 use mathlib.Core.Path.{refl, _∙_}
-use native.Mathlib.Omega.{arith}
 use borrow.Author.Needs.{needs}
+use denote.Ref.{now}
+use Rattle.basics.specs.Bytes.{byteAt}
+use Rattle.effects.specs.Depth.{ruleOf}
+use Rattle.fault.specs.Decoding.{actionOf, decodedAs}
+use Rattle.basics.proofs.Keys.{every-unkeyed}
+use Rattle.fault.proofs.Decode as decode
 use Rattle.fault.proofs.decode_fault.Statement.{statement}
 use Rattle.fault.proofs.decode_fault.Tie as tie
-use Rattle.fault.proofs.decode_fault.Reads as reads
-use Rattle.fault.proofs.decode_fault.Lts as lts
-use Rattle.fault.proofs.assign_fault.Reads as assign-fault-reads
-use Rattle.fault.proofs.invoke_fault.Reads as invoke-fault-reads
-use Rattle.fault.proofs.load_fault.Reads as load-fault-reads
-use Rattle.fault.proofs.read_fault.Reads as read-fault-reads
-use Rattle.fault.proofs.store_fault.Reads as store-fault-reads
 
 -- the keys of the arms, the last first
 abbrev arms : List (List ℕ)
 arms = (195 ∷ []) ∷ (194 ∷ []) ∷ (191 ∷ []) ∷ (190 ∷ []) ∷ (185 ∷ []) ∷ (181 ∷ []) ∷ (180 ∷ []) ∷ []
 
--- src/lib.rt:138:9
 returns : tie.Need-returns
-returns c = decode.outside (now (c .before .before .before .args .code)) (now (c .before .before .before .args .members)) (c .before .before .before .args .count) (c .before .before .before .args .fault) (c .if1 .taken)
+returns c =
+    let a = c .before .before .before .args in
+    decode.outside (now (a .code)) (now (a .members)) (a .count) (a .fault) (c .if1 .taken)
 
--- src/lib.rt:140:14
 shared-slice-read-op : tie.Need-shared-slice-read-op
 shared-slice-read-op c = search needs
 
--- src/lib.rt:142:29
 read-fault-requires : tie.Need-read-fault-requires
 read-fault-requires c κs = search needs
 
--- src/lib.rt:143:29
 assign-fault-requires : tie.Need-assign-fault-requires
 assign-fault-requires c κs = search needs
 
--- src/lib.rt:145:36
 invoke-fault-requires : tie.Need-invoke-fault-requires
 invoke-fault-requires c κs = search needs
 
--- src/lib.rt:146:44
 load-fault-requires : tie.Need-load-fault-requires
 load-fault-requires c κs = search needs
 
--- src/lib.rt:147:46
 store-fault-requires : tie.Need-store-fault-requires
 store-fault-requires c κs = search needs
 
--- src/lib.rt:144:58
 invoke-fault-requires-2 : tie.Need-invoke-fault-requires-2
 invoke-fault-requires-2 c κs = search needs
 
--- src/lib.rt:134:1
 returns-2 : tie.Need-returns-2
 returns-2 c =
     let a = c .before .before .before .before .before .before .args in
-    c .read-fault .ensures ∙ decode.inside (now (a .code)) (now (a .members)) (a .count) (a .fault) 180 (omega arith) (c .before .match .keys1)
+    c .read-fault .ensures
+    ∙ decode.inside (now (a .code)) (now (a .members)) (a .count) (a .fault) 180 (omega arith) (c .before .match .keys1)
 
--- src/lib.rt:134:1
 returns-3 : tie.Need-returns-3
 returns-3 c =
     let a = c .before .before .before .before .before .before .args in
-    c .assign-fault .ensures ∙ decode.inside (now (a .code)) (now (a .members)) (a .count) (a .fault) 181 (omega arith) (c .before .match .keys2)
+    c .assign-fault .ensures
+    ∙ decode.inside (now (a .code)) (now (a .members)) (a .count) (a .fault) 181 (omega arith) (c .before .match .keys2)
 
--- src/lib.rt:134:1
 returns-4 : tie.Need-returns-4
 returns-4 c =
     let a = c .before .before .before .before .before .before .args in
-    c .invoke-fault .ensures ∙ decode.as-interface (now (a .code)) (now (a .members)) (a .count) (a .fault) (byteAt (now (a .code)) (a .fault)) (c .before .match .keys3)
-    ∙ decode.inside (now (a .code)) (now (a .members)) (a .count) (a .fault) (byteAt (now (a .code)) (a .fault)) (omega arith) refl
+    let op : ℕ = byteAt (now (a .code)) (a .fault) in
+    c .invoke-fault .ensures
+    ∙ decode.as-interface (now (a .code)) (now (a .members)) (a .count) (a .fault) op (c .before .match .keys3)
+    ∙ decode.inside (now (a .code)) (now (a .members)) (a .count) (a .fault) op (omega arith) refl
 
--- src/lib.rt:134:1
 returns-5 : tie.Need-returns-5
 unfolding decodedAs ruleOf actionOf
 returns-5 c =
     let a = c .before .before .before .before .before .args in
     decode.inside (now (a .code)) (now (a .members)) (a .count) (a .fault) 190 (omega arith) (c .match .keys4)
 
--- src/lib.rt:134:1
 returns-6 : tie.Need-returns-6
 unfolding decodedAs ruleOf actionOf
 returns-6 c =
     let a = c .before .before .before .before .before .args in
     decode.inside (now (a .code)) (now (a .members)) (a .count) (a .fault) 191 (omega arith) (c .match .keys5)
 
--- src/lib.rt:134:1
 returns-7 : tie.Need-returns-7
 unfolding decodedAs ruleOf actionOf
 returns-7 c =
     let a = c .before .before .before .before .before .args in
     decode.inside (now (a .code)) (now (a .members)) (a .count) (a .fault) 194 (omega arith) (c .match .keys6)
 
--- src/lib.rt:134:1
 returns-8 : tie.Need-returns-8
 unfolding decodedAs ruleOf actionOf
 returns-8 c =
     let a = c .before .before .before .before .before .args in
     decode.inside (now (a .code)) (now (a .members)) (a .count) (a .fault) 195 (omega arith) (c .match .keys7)
 
--- src/lib.rt:134:1
 returns-9 : tie.Need-returns-9
 returns-9 c =
     let a = c .before .before .before .before .before .before .before .before .args in
-    c .load-fault .ensures ∙ decode.loads-array (now (a .code)) (now (a .members)) (a .count) (a .fault) (byteAt (now (a .code)) (a .fault)) (omega arith) (omega arith)
-    ∙ decode.inside (now (a .code)) (now (a .members)) (a .count) (a .fault) (byteAt (now (a .code)) (a .fault)) (omega arith) refl
+    let op : ℕ = byteAt (now (a .code)) (a .fault) in
+    c .load-fault .ensures
+    ∙ decode.loads-array (now (a .code)) (now (a .members)) (a .count) (a .fault) op (omega arith) (omega arith)
+    ∙ decode.inside (now (a .code)) (now (a .members)) (a .count) (a .fault) op (omega arith) refl
 
--- src/lib.rt:134:1
 returns-10 : tie.Need-returns-10
 returns-10 c =
     let a = c .before .before .before .before .before .before .before .before .before .before .args in
-    c .store-fault .ensures ∙ decode.stores-array (now (a .code)) (now (a .members)) (a .count) (a .fault) (byteAt (now (a .code)) (a .fault)) (omega arith) (omega arith)
-    ∙ decode.inside (now (a .code)) (now (a .members)) (a .count) (a .fault) (byteAt (now (a .code)) (a .fault)) (omega arith) refl
+    let op : ℕ = byteAt (now (a .code)) (a .fault) in
+    c .store-fault .ensures
+    ∙ decode.stores-array (now (a .code)) (now (a .members)) (a .count) (a .fault) op (omega arith) (omega arith)
+    ∙ decode.inside (now (a .code)) (now (a .members)) (a .count) (a .fault) op (omega arith) refl
 
--- src/lib.rt:134:1
 returns-11 : tie.Need-returns-11
 returns-11 c =
     let a = c .before .before .before .before .before .before .before .before .before .before .before .before .args in
-    c .invoke-fault2 .ensures ∙ decode.as-special (now (a .code)) (now (a .members)) (a .count) (a .fault) (byteAt (now (a .code)) (a .fault)) (decode.behind-fields (byteAt (now (a .code)) (a .fault)) (c .before .before .if6 .left) (c .before .before .before .before .before .before .before .match .rest .0 .0 .0 .0 .0 .0 .1) (c .before .before .before .before .before .before .before .match .rest .0 .0 .0 .0 .0 .1)) (c .before .if7 .taken)
-    ∙ decode.inside (now (a .code)) (now (a .members)) (a .count) (a .fault) (byteAt (now (a .code)) (a .fault)) (omega arith) refl
+    let op : ℕ = byteAt (now (a .code)) (a .fault) in
+    let rest = c .before .before .before .before .before .before .before .match .rest in
+    let behind = decode.behind-fields op (c .before .before .if6 .left) (rest .0 .0 .0 .0 .0 .0 .1) (rest .0 .0 .0 .0 .0 .1) in
+    c .invoke-fault2 .ensures
+    ∙ decode.as-special (now (a .code)) (now (a .members)) (a .count) (a .fault) op behind (c .before .if7 .taken)
+    ∙ decode.inside (now (a .code)) (now (a .members)) (a .count) (a .fault) op (omega arith) refl
 
--- src/lib.rt:134:1
 returns-12 : tie.Need-returns-12
 unfolding ruleOf
 returns-12 c =
     let a = c .before .before .before .before .before .before .args in
     let op : ℕ = byteAt (now (a .code)) (a .fault) in
     decode.nothing-at (now (a .code)) (now (a .members)) (a .count) (a .fault) op
-    (decode.none-so (ruleOf op) (every-unkeyed (λ k. decode.isNone (ruleOf k)) arms 0 46 tt op (omega arith) (omega arith) (c .before .match .rest)))
+    (decode.none-so (ruleOf op)
+    (every-unkeyed (λ k. decode.isNone (ruleOf k)) arms 0 46 tt op (omega arith) (omega arith) (c .before .match .rest)))
     ∙ decode.inside (now (a .code)) (now (a .members)) (a .count) (a .fault) op (omega arith) refl
 
--- src/lib.rt:134:1
 returns-13 : tie.Need-returns-13
 unfolding ruleOf
 returns-13 c =
     let a = c .before .before .before .before .before .before .before .before .args in
     let op : ℕ = byteAt (now (a .code)) (a .fault) in
+    let rest = c .before .before .before .match .rest in
     decode.nothing-at (now (a .code)) (now (a .members)) (a .count) (a .fault) op
-    (decode.none-so (ruleOf op) (every-unkeyed (λ k. decode.isNone (ruleOf k)) arms 54 25 tt op (omega arith) (omega arith) (c .before .before .before .match .rest)))
+    (decode.none-so (ruleOf op)
+    (every-unkeyed (λ k. decode.isNone (ruleOf k)) arms 54 25 tt op (omega arith) (omega arith) rest))
     ∙ decode.inside (now (a .code)) (now (a .members)) (a .count) (a .fault) op (omega arith) refl
 
--- src/lib.rt:134:1
 returns-14 : tie.Need-returns-14
 unfolding ruleOf
 returns-14 c =
     let a = c .before .before .before .before .before .before .before .before .before .before .args in
     let op : ℕ = byteAt (now (a .code)) (a .fault) in
+    let rest = c .before .before .before .before .before .match .rest in
     decode.nothing-at (now (a .code)) (now (a .members)) (a .count) (a .fault) op
-    (decode.none-so (ruleOf op) (every-unkeyed (λ k. decode.isNone (ruleOf k)) arms 87 95 tt op (omega arith) (omega arith) (c .before .before .before .before .before .match .rest)))
+    (decode.none-so (ruleOf op)
+    (every-unkeyed (λ k. decode.isNone (ruleOf k)) arms 87 95 tt op (omega arith) (omega arith) rest))
     ∙ decode.inside (now (a .code)) (now (a .members)) (a .count) (a .fault) op (omega arith) refl
 
--- src/lib.rt:134:1
 returns-15 : tie.Need-returns-15
 unfolding ruleOf
 returns-15 c =
     let a = c .before .before .before .before .before .before .before .before .before .before .before .args in
     let op : ℕ = byteAt (now (a .code)) (a .fault) in
+    let byte = c .before .before .before .before .before .before .before .before .before .before .shared-slice-known .given in
+    let rest = c .before .before .before .before .before .before .match .rest in
     decode.nothing-at (now (a .code)) (now (a .members)) (a .count) (a .fault) op
-    (decode.none-so (ruleOf op) (every-unkeyed (λ k. decode.isNone (ruleOf k)) arms 184 72 tt op (c .if7 .left) (c .before .before .before .before .before .before .before .before .before .before .shared-slice-known .given (a .fault) .fits) (c .before .before .before .before .before .before .match .rest)))
+    (decode.none-so (ruleOf op)
+    (every-unkeyed (λ k. decode.isNone (ruleOf k)) arms 184 72 tt op (c .if7 .left) (byte (a .fault) .fits) rest))
     ∙ decode.inside (now (a .code)) (now (a .members)) (a .count) (a .fault) op (omega arith) refl
 
 pub decode-fault-spec : {M : Type 1} → statement M

@@ -1,112 +1,98 @@
-use Rattle.fault.proofs.Decode as decode
+-- `fault::invoke_fault` meets its contract. One law for each way out; `<init>` is the name that is refused.
+-- Assumes nothing.
+use Prim.Native.Nat.{ℕ}
+use native.Mathlib.Omega.{arith}
+use mathlib.Core.List.{List}
+use mathlib.Core.Path.{ap, sym, _∙_}
+use borrow.Author.Needs.{needs}
+use denote.Ref.{now}
+use Rattle.basics.specs.Ascii.{ascii}
+use Rattle.basics.specs.Choice.{sameList}
 use Rattle.descriptor.specs.Readers.{parameters}
 use Rattle.basics.proofs.Same.{same-told}
-use Rattle.basics.specs.Choice.{sameList}
-use Rattle.basics.specs.Ascii.{ascii}
-use denote.Ref.{now}
-use Prim.Native.Nat.{ℕ}
-use mathlib.Core.List.{List}
-use mathlib.Core.Bool.{Bool, true, false}
-use mathlib.Core.Path.{_≡_, ap, sym, _∙_}
-use native.Mathlib.Omega.{arith}
-use borrow.Author.Needs.{needs}
+use Rattle.fault.proofs.Decode as decode
 use Rattle.fault.proofs.invoke_fault.Statement.{statement}
 use Rattle.fault.proofs.invoke_fault.Tie as tie
-use Rattle.fault.proofs.invoke_fault.Reads as reads
-use Rattle.fault.proofs.invoke_fault.Lts as lts
-use Rattle.bytecode.proofs.read_u16.Reads as read-u16-reads
-use Rattle.casefile.proofs.descriptor_of.Reads as descriptor-of-reads
-use Rattle.casefile.proofs.find_member.Reads as find-member-reads
-use Rattle.casefile.proofs.name_of.Reads as name-of-reads
-use Rattle.check.proofs.same.Reads as same-reads
-use Rattle.descriptor.proofs.parse_method_params.Reads as parse-method-params-reads
 
--- src/lib.rt:76:8
 sub-if1 : tie.Need-sub-if1
 sub-if1 c = search needs
 
--- src/lib.rt:77:9
 returns : tie.Need-returns
-returns c = decode.invoke-cut (now (c .before .before .before .args .code)) (now (c .before .before .before .args .members)) (c .before .before .before .args .count) (c .before .before .before .args .fault) (omega arith)
+returns c =
+    let a = c .before .before .before .args in
+    decode.invoke-cut (now (a .code)) (now (a .members)) (a .count) (a .fault) (omega arith)
 
--- src/lib.rt:79:42
 add-read-u16 : tie.Need-add-read-u16
 add-read-u16 c = search needs
 
--- src/lib.rt:79:9
 read-u16-requires : tie.Need-read-u16-requires
 read-u16-requires c κs = search needs
 
--- src/lib.rt:80:9
 find-member-requires : tie.Need-find-member-requires
 find-member-requires c κs = search needs
 
--- src/lib.rt:82:9
 returns-2 : tie.Need-returns-2
 returns-2 c =
     let a = c .before .before .before .before .before .before .args in
-    decode.invoke-missing (now (a .code)) (now (a .members)) (a .count) (a .fault) _ _ (omega arith) (c .before .before .read-u16 .ensures .0)
-    (c .before .find-member .ensures) (c .if2 .taken)
+    decode.invoke-missing (now (a .code)) (now (a .members)) (a .count) (a .fault) _ _ (omega arith)
+    (c .before .before .read-u16 .ensures .0) (c .before .find-member .ensures) (c .if2 .taken)
 
--- src/lib.rt:84:13
 name-of-requires : tie.Need-name-of-requires
 name-of-requires c κs = search needs
 
--- src/lib.rt:84:39
 slice-aggregate-same : tie.Need-slice-aggregate-same
 slice-aggregate-same c = search needs
 
--- src/lib.rt:84:8
 same-requires : tie.Need-same-requires
 same-requires c κs = search needs
 
--- src/lib.rt:85:9
 returns-3 : tie.Need-returns-3
 returns-3 c =
     let a = c .before .before .before .before .before .before .before .before .before .before .args in
     let s = c .before .same in
-    decode.constructor (now (a .code)) (now (a .members)) (a .count) (a .fault) _ _ (omega arith) (c .before .before .before .before .before .before .read-u16 .ensures .0)
+    decode.constructor (now (a .code)) (now (a .members)) (a .count) (a .fault) _ _ (omega arith)
+    (c .before .before .before .before .before .before .read-u16 .ensures .0)
     (c .before .before .before .before .before .find-member .ensures) (c .before .before .before .before .if2 .left)
     (ap (λ (l : List ℕ). sameList l (ascii "<init>")) (sym (c .before .before .before .name-of .ensures))
     ∙ same-told (s .result) _ (ascii "<init>") (s .ensures .0) (s .ensures .1) ∙ c .if3 .taken)
 
--- src/lib.rt:87:74
 descriptor-of-requires : tie.Need-descriptor-of-requires
 descriptor-of-requires c κs = search needs
 
--- src/lib.rt:87:42
 parse-method-params-requires : tie.Need-parse-method-params-requires
 parse-method-params-requires c κs = search needs
 
--- src/lib.rt:87:24
 enum-known-slots : tie.Need-enum-known-slots
 enum-known-slots c = search needs
 
--- src/lib.rt:88:9
 enum-told : tie.Need-enum-told
 enum-told c = search needs
 
--- src/lib.rt:88:9
 returns-4 : tie.Need-returns-4
 returns-4 c =
-    let a = c .before .before .before .before .before .before .before .before .before .before .before .before .before .before .args in
-    let s = c .before .before .before .before .before .same in
-    decode.invoke-unread (now (a .code)) (now (a .members)) (a .count) (a .fault) _ _ (omega arith) (c .before .before .before .before .before .before .before .before .before .before .read-u16 .ensures .0)
-    (c .before .before .before .before .before .before .before .before .before .find-member .ensures) (c .before .before .before .before .before .before .before .before .if2 .left)
-    (ap (λ (l : List ℕ). sameList l (ascii "<init>")) (sym (c .before .before .before .before .before .before .before .name-of .ensures))
-    ∙ same-told (s .result) _ (ascii "<init>") (s .ensures .0) (s .ensures .1) ∙ c .before .before .before .before .if3 .left)
-    (ap parameters (sym (c .before .before .before .descriptor-of .ensures)) ∙ sym (c .before .before .parse-method-params .ensures) ∙ c .enum-told .given .1)
+    let named = c .before .before .before .before in
+    let looked = named .before .before .before .before in
+    let a = looked .before .before .before .before .before .before .args in
+    let s = named .before .same in
+    decode.invoke-unread (now (a .code)) (now (a .members)) (a .count) (a .fault) _ _ (omega arith)
+    (looked .before .before .read-u16 .ensures .0) (looked .before .find-member .ensures) (looked .if2 .left)
+    (ap (λ (l : List ℕ). sameList l (ascii "<init>")) (sym (named .before .before .before .name-of .ensures))
+    ∙ same-told (s .result) _ (ascii "<init>") (s .ensures .0) (s .ensures .1) ∙ named .if3 .left)
+    (ap parameters (sym (c .before .before .before .descriptor-of .ensures))
+    ∙ sym (c .before .before .parse-method-params .ensures) ∙ c .enum-told .given .1)
 
--- src/lib.rt:72:1
 returns-5 : tie.Need-returns-5
 returns-5 c =
-    let a = c .before .before .before .before .before .before .before .before .before .before .before .before .before .before .before .args in
-    let s = c .before .before .before .before .before .before .same in
-    decode.invokes-method (now (a .code)) (now (a .members)) (a .count) (a .fault) _ _ (omega arith) (c .before .before .before .before .before .before .before .before .before .before .before .read-u16 .ensures .0)
-    (c .before .before .before .before .before .before .before .before .before .before .find-member .ensures) (c .before .before .before .before .before .before .before .before .before .if2 .left)
-    (ap (λ (l : List ℕ). sameList l (ascii "<init>")) (sym (c .before .before .before .before .before .before .before .before .name-of .ensures))
-    ∙ same-told (s .result) _ (ascii "<init>") (s .ensures .0) (s .ensures .1) ∙ c .before .before .before .before .before .if3 .left) _ _
-    (ap parameters (sym (c .before .before .before .before .descriptor-of .ensures)) ∙ sym (c .before .before .before .parse-method-params .ensures) ∙ c .before .slots .given .1)
+    let named = c .before .before .before .before .before in
+    let looked = named .before .before .before .before in
+    let a = looked .before .before .before .before .before .before .args in
+    let s = named .before .same in
+    decode.invokes-method (now (a .code)) (now (a .members)) (a .count) (a .fault) _ _ (omega arith)
+    (looked .before .before .read-u16 .ensures .0) (looked .before .find-member .ensures) (looked .if2 .left)
+    (ap (λ (l : List ℕ). sameList l (ascii "<init>")) (sym (named .before .before .before .name-of .ensures))
+    ∙ same-told (s .result) _ (ascii "<init>") (s .ensures .0) (s .ensures .1) ∙ named .if3 .left) _ _
+    (ap parameters (sym (c .before .before .before .before .descriptor-of .ensures))
+    ∙ sym (c .before .before .before .parse-method-params .ensures) ∙ c .before .slots .given .1)
 
 pub invoke-fault-spec : {M : Type 1} → statement M
 invoke-fault-spec =

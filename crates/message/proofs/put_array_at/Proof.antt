@@ -1,38 +1,34 @@
-use Rattle.message.specs.Message.{arrayText}
-use Rattle.text.proofs.Writing.{written-then}
+-- `message::put_array_at` meets its contract. Three writers, one after the other.
+-- Assumes nothing.
 use native.Mathlib.Omega.{arith}
 use borrow.Author.Needs.{needs}
+use Rattle.message.specs.Message.{arrayText}
+use Rattle.text.proofs.Writing.{written-then}
 use Rattle.message.proofs.put_array_at.Statement.{statement}
 use Rattle.message.proofs.put_array_at.Tie as tie
-use Rattle.message.proofs.put_array_at.Reads as reads
-use Rattle.message.proofs.put_array_at.Lts as lts
-use Rattle.message.proofs.put_element_at.Reads as put-element-at-reads
-use Rattle.text.proofs.put_at.Reads as put-at-reads
 
--- src/lib.rt:38:9
 put-at-requires : tie.Need-put-at-requires
 put-at-requires c κs = search needs
 
--- src/lib.rt:39:9
 put-element-at-requires : tie.Need-put-element-at-requires
 put-element-at-requires c κs = search needs
 
--- src/lib.rt:40:22
 slice-aggregate-put-at : tie.Need-slice-aggregate-put-at
 slice-aggregate-put-at c = search needs
 
--- src/lib.rt:40:5
 put-at-requires-2 : tie.Need-put-at-requires-2
 put-at-requires-2 c κs = search needs
 
--- src/lib.rt:35:1
 same-length : tie.Need-same-length
 same-length c = search needs
 
--- src/lib.rt:35:1
 returns : tie.Need-returns
 unfolding arrayText
-returns c = written-then (omega arith) (written-then (omega arith) (c .before .before .before .before .before .before .before .before .before .before .before .put-at .ensures) (c .before .before .before .before .before .before .before .put-element-at .ensures)) (c .before .before .put-at2 .ensures)
+returns c =
+    let element = c .before .before .before .before .before .before .before in
+    written-then (omega arith)
+    (written-then (omega arith) (element .before .before .before .before .put-at .ensures) (element .put-element-at .ensures))
+    (c .before .before .put-at2 .ensures)
 
 pub put-array-at-spec : {M : Type 1} → statement M
 put-array-at-spec =

@@ -1,47 +1,44 @@
-use Rattle.message.specs.Message.{quoted}
-use Rattle.text.proofs.Writing.{written-then}
+-- `message::put_quoted_at` meets its contract. Four writers, one after the other.
+-- Assumes nothing.
 use native.Mathlib.Omega.{arith}
 use borrow.Author.Needs.{needs}
+use Rattle.message.specs.Message.{quoted}
+use Rattle.text.proofs.Writing.{written-then}
 use Rattle.message.proofs.put_quoted_at.Statement.{statement}
 use Rattle.message.proofs.put_quoted_at.Tie as tie
-use Rattle.message.proofs.put_quoted_at.Reads as reads
-use Rattle.message.proofs.put_quoted_at.Lts as lts
-use Rattle.text.proofs.put_at.Reads as put-at-reads
 
--- src/lib.rt:29:9
 put-at-requires : tie.Need-put-at-requires
 put-at-requires c κs = search needs
 
--- src/lib.rt:30:37
 slice-aggregate-put-at : tie.Need-slice-aggregate-put-at
 slice-aggregate-put-at c = search needs
 
--- src/lib.rt:30:9
 put-at-requires-2 : tie.Need-put-at-requires-2
 put-at-requires-2 c κs = search needs
 
--- src/lib.rt:31:9
 put-at-requires-3 : tie.Need-put-at-requires-3
 put-at-requires-3 c κs = search needs
 
--- src/lib.rt:32:22
 slice-aggregate-put-at-2 : tie.Need-slice-aggregate-put-at-2
 slice-aggregate-put-at-2 c = search needs
 
--- src/lib.rt:32:5
 put-at-requires-4 : tie.Need-put-at-requires-4
 put-at-requires-4 c κs = search needs
 
--- src/lib.rt:26:1
 same-length : tie.Need-same-length
 same-length c = search needs
 
--- src/lib.rt:26:1
 returns : tie.Need-returns
 unfolding quoted
 returns c =
     written-then (omega arith)
-    (written-then (omega arith) (written-then (omega arith) (c .before .before .before .before .before .before .before .before .before .before .before .before .before .before .before .before .put-at .ensures) (c .before .before .before .before .before .before .before .before .before .before .before .put-at2 .ensures)) (c .before .before .before .before .before .before .before .put-at3 .ensures)) (c .before .before .put-at4 .ensures)
+    (written-then (omega arith)
+    (written-then (omega arith)
+    (c .before .before .before .before .before .before .before .before .before .before .before .before
+    .before .before .before .before .put-at .ensures)
+    (c .before .before .before .before .before .before .before .before .before .before .before .put-at2 .ensures))
+    (c .before .before .before .before .before .before .before .put-at3 .ensures))
+    (c .before .before .put-at4 .ensures)
 
 pub put-quoted-at-spec : {M : Type 1} → statement M
 put-quoted-at-spec =

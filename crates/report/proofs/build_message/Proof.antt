@@ -1,158 +1,132 @@
-use Rattle.report.proofs.Reporting.{parts-are}
-use Rattle.casefile.specs.Parts.{partsOf}
-use Rattle.report.proofs.Inside.{Inside, parts-inside}
-use Rattle.report.specs.Report.{answerOf, outputOf, reportOf, reportedIn}
+-- `report::build_message` meets its contract. The parts lie in the case, and a report on them is one on it.
+-- Assumes nothing.
+use native.Mathlib.Omega.{arith}
+use mathlib.Core.Path.{refl, sym, _∙_, subst}
+use lib.ListN.{length}
+use borrow.Author.Needs.{needs}
+use denote.Ref.{now}
 use Rattle.casefile.specs.declared.Case.the-variants.{Parts}
 use Rattle.casefile.specs.declared.Case.{Case}
-use denote.Ref.{now}
-use lib.ListN.{length}
-use Prim.Native.Nat.{_+_, _≤_}
-use mathlib.Core.Path.{_≡_, refl, sym, ap, _∙_, subst}
-use native.Mathlib.Omega.{arith}
-use borrow.Author.Needs.{needs}
+use Rattle.report.specs.Report.{reportOf, reportedIn}
+use Rattle.report.proofs.Inside.{Inside, parts-inside}
+use Rattle.report.proofs.Reporting.{parts-are}
 use Rattle.report.proofs.build_message.Statement.{statement}
 use Rattle.report.proofs.build_message.Tie as tie
-use Rattle.report.proofs.build_message.Reads as reads
-use Rattle.report.proofs.build_message.Lts as lts
-use Rattle.block.proofs.clear.Reads as clear-reads
-use Rattle.casefile.proofs.read_case.Reads as read-case-reads
-use Rattle.report.proofs.report_parts.Reads as report-parts-reads
 
--- src/lib.rt:161:11
 read-case-requires : tie.Need-read-case-requires
 read-case-requires c κs = search needs
 
--- src/lib.rt:163:19
 enum-told : tie.Need-enum-told
 enum-told c = search needs
 
--- src/lib.rt:163:13
 clear-requires : tie.Need-clear-requires
 clear-requires c κs = search needs
 
--- src/lib.rt:166:21
 enum-known-at : tie.Need-enum-known-at
 enum-known-at c = search needs
 
--- src/lib.rt:167:13
 clear-requires-2 : tie.Need-clear-requires-2
 clear-requires-2 c κs = search needs
 
--- src/lib.rt:170:21
 enum-known-places : tie.Need-enum-known-places
 enum-known-places c = search needs
 
-inside : (c : tie.After-known-told2) → Inside (length (c .before .before .before .before .before .before .before .args .case .now)) (Parts (c .before .places .given .0 .0))
+-- the parts that are read lie in the case
+inside :
+    (c : tie.After-known-told2) →
+    Inside (length (c .before .before .before .before .before .before .before .args .case .now))
+    (Parts (c .before .places .given .0 .0))
 inside c =
     let case = c .before .before .before .before .before .before .before .args .case .now in
-    subst (λ (x : Case). Inside (length case) x) (c .before .places .given .1) (parts-inside case _ (c .before .before .before .read-case .ensures))
+    subst (λ (x : Case). Inside (length case) x) (c .before .places .given .1)
+    (parts-inside case _ (c .before .before .before .read-case .ensures))
 
--- src/lib.rt:172:28
 add-code-end : tie.Need-add-code-end
 add-code-end c = omega (arith, inside (c .before))
 
--- src/lib.rt:174:33
 add-signature-end : tie.Need-add-signature-end
 add-signature-end c = omega (arith, inside (c .before .before))
 
--- src/lib.rt:176:31
 add-members-end : tie.Need-add-members-end
 add-members-end c = omega (arith, inside (c .before .before .before))
 
--- src/lib.rt:178:31
 add-records-end : tie.Need-add-records-end
 add-records-end c = omega (arith, inside (c .before .before .before .before))
 
--- src/lib.rt:182:17
 sub-report-parts : tie.Need-sub-report-parts
 sub-report-parts c = search needs
 
--- src/lib.rt:182:17
 part-report-parts-start : tie.Need-part-report-parts-start
 part-report-parts-start c = search needs
 
--- src/lib.rt:182:17
 part-report-parts-end : tie.Need-part-report-parts-end
 part-report-parts-end c = omega (arith, inside (c .before .before .before .before))
 
--- src/lib.rt:183:17
 sub-report-parts-2 : tie.Need-sub-report-parts-2
 sub-report-parts-2 c = search needs
 
--- src/lib.rt:183:17
 part-report-parts-start-2 : tie.Need-part-report-parts-start-2
 part-report-parts-start-2 c = search needs
 
--- src/lib.rt:183:17
 part-report-parts-end-2 : tie.Need-part-report-parts-end-2
 part-report-parts-end-2 c = omega (arith, inside (c .before .before .before .before .before))
 
--- src/lib.rt:184:17
 sub-report-parts-3 : tie.Need-sub-report-parts-3
 sub-report-parts-3 c = search needs
 
--- src/lib.rt:184:17
 part-report-parts-start-3 : tie.Need-part-report-parts-start-3
 part-report-parts-start-3 c = search needs
 
--- src/lib.rt:184:17
 part-report-parts-end-3 : tie.Need-part-report-parts-end-3
 part-report-parts-end-3 c = omega (arith, inside (c .before .before .before .before .before .before))
 
--- src/lib.rt:186:17
 sub-report-parts-4 : tie.Need-sub-report-parts-4
 sub-report-parts-4 c = search needs
 
--- src/lib.rt:186:17
 part-report-parts-start-4 : tie.Need-part-report-parts-start-4
 part-report-parts-start-4 c = search needs
 
--- src/lib.rt:186:17
 part-report-parts-end-4 : tie.Need-part-report-parts-end-4
 part-report-parts-end-4 c = omega (arith, inside (c .before .before .before .before .before .before .before))
 
--- src/lib.rt:179:13
 report-parts-requires : tie.Need-report-parts-requires
 report-parts-requires c κs = search needs
 
--- src/lib.rt:156:1
 same-length : tie.Need-same-length
 same-length c = search needs
 
--- src/lib.rt:156:1
 returns : tie.Need-returns
 unfolding reportOf reportedIn
 returns c =
-    let a = c .before .before .before .before .before .before .before .before .before .before .args in
-    let told = sym (c .before .before .before .before .before .before .read-case .ensures) ∙ c .before .before .before .before .enum-told .given .1 in
+    let read = c .before .before .before .before .before .before in
+    let told = sym (read .read-case .ensures) ∙ c .before .before .before .before .enum-told .given .1 in
     (rw told refl, (rw told refl, c .before .before .clear .ensures))
 
--- src/lib.rt:156:1
 same-length-2 : tie.Need-same-length-2
 same-length-2 c = search needs
 
--- src/lib.rt:156:1
 returns-2 : tie.Need-returns-2
 unfolding reportOf reportedIn
 returns-2 c =
-    let a = c .before .before .before .before .before .before .before .before .before .before .before .args in
-    let told = sym (c .before .before .before .before .before .before .before .read-case .ensures) ∙ c .before .before .before .before .before .at .given .1 in
+    let wrong = c .before .before .before .before .before in
+    let told = sym (wrong .before .before .read-case .ensures) ∙ wrong .at .given .1 in
     (rw told refl, (rw told refl, c .before .before .clear2 .ensures))
 
--- src/lib.rt:156:1
 same-length-3 : tie.Need-same-length-3
 same-length-3 c = search needs
 
--- src/lib.rt:156:1
 same-length-4 : tie.Need-same-length-4
 same-length-4 c = search needs
 
--- src/lib.rt:156:1
 returns-3 : tie.Need-returns-3
 unfolding reportOf reportedIn
 returns-3 c =
-    let told = sym (c .before .before .before .before .before .before .before .before .before .before .before .before .before .before .before .before .before .before .read-case .ensures) ∙ c .before .before .before .before .before .before .before .before .before .before .before .before .before .before .before .before .places .given .1 in
-    rw (told, ← parts-are (now (c .before .before .before .before .before .before .before .before .before .before .before .before .before .before .before .before .before .before .before .before .before .before .args .case)) (c .before .before .before .before .before .before .before .before .before .before .before .before .before .before .before .before .places .given .0 .0)) (c .before .before .before .before .report-parts .ensures)
+    let parted = c .before .before .before .before .before .before .before .before in
+    let read = parted .before .before .before .before .before .before .before .before in
+    let a = read .before .before .before .before .before .before .args in
+    let told = sym (read .before .before .read-case .ensures) ∙ read .places .given .1 in
+    rw (told, ← parts-are (now (a .case)) (read .places .given .0 .0))
+    (c .before .before .before .before .report-parts .ensures)
 
 pub build-message-spec : {M : Type 1} → statement M
 build-message-spec =

@@ -1,11 +1,10 @@
+-- `report::is_instance` meets its contract, by computing.
+-- Assumes nothing.
 use mathlib.Core.Path.{refl}
 use Rattle.report.specs.Report.{isInstance}
 use Rattle.report.proofs.is_instance.Statement.{statement}
 use Rattle.report.proofs.is_instance.Tie as tie
-use Rattle.report.proofs.is_instance.Reads as reads
-use Rattle.report.proofs.is_instance.Lts as lts
 
--- src/lib.rt:119:1
 returns : tie.Need-returns
 unfolding isInstance
 returns c = refl

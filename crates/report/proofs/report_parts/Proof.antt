@@ -1,96 +1,92 @@
+-- `report::report_parts` meets its contract. By what the fault decodes to, then by its trace.
+-- Assumes nothing.
+use mathlib.Core.Path.{sym, _∙_}
+use lib.ListN.{length}
+use borrow.Author.Needs.{needs}
+use denote.Ref.{now}
 use Rattle.report.specs.Report.{partsBy}
 use Rattle.report.proofs.Reporting as reporting
-use denote.Ref.{now}
-use lib.ListN.{length}
-use mathlib.Core.Path.{_≡_, refl, sym, ap, _∙_}
-use borrow.Author.Needs.{needs}
 use Rattle.report.proofs.report_parts.Statement.{statement}
 use Rattle.report.proofs.report_parts.Tie as tie
-use Rattle.report.proofs.report_parts.Reads as reads
-use Rattle.report.proofs.report_parts.Lts as lts
-use Rattle.block.proofs.clear.Reads as clear-reads
-use Rattle.fault.proofs.decode_fault.Reads as decode-fault-reads
-use Rattle.report.proofs.is_instance.Reads as is-instance-reads
-use Rattle.report.proofs.trace_cause.Reads as trace-cause-reads
-use Rattle.report.proofs.write_message.Reads as write-message-reads
 
--- src/lib.rt:142:43
 decode-fault-requires : tie.Need-decode-fault-requires
 decode-fault-requires c κs = search needs
 
--- src/lib.rt:142:25
 enum-known-action : tie.Need-enum-known-action
 enum-known-action c = search needs
 
--- src/lib.rt:143:15
 enum-told : tie.Need-enum-told
 enum-told c = search needs
 
--- src/lib.rt:143:9
 clear-requires : tie.Need-clear-requires
 clear-requires c κs = search needs
 
--- src/lib.rt:144:9
 same-length : tie.Need-same-length
 same-length c = search needs
 
--- src/lib.rt:144:9
 returns : tie.Need-returns
 returns c =
-    let a = c .before .before .before .before .before .before .before .before .before .before .before .before .before .args in
-    let p = partsBy (a .flags) (a .at) (now (a .code)) (now (a .signature)) (now (a .members)) (a .member-count) (now (a .records)) (a .record-count) in
-    let told = reporting.is-silent p (length (now (a .stack))) (now (a .out)) (sym (c .before .before .before .before .before .before .decode-fault .ensures) ∙ c .before .before .before .before .enum-told .given .1) in
+    let none = c .before .before .before .before in
+    let a = none .before .before .before .before .before .before .before .before .before .args in
+    let p = partsBy (a .flags) (a .at) (now (a .code)) (now (a .signature)) (now (a .members)) (a .member-count)
+    (now (a .records)) (a .record-count) in
+    let told =
+    reporting.is-silent p (length (now (a .stack))) (now (a .out))
+    (sym (none .before .before .decode-fault .ensures) ∙ none .enum-told .given .1) in
     (told .0, (told .1, c .before .before .clear .ensures))
 
--- src/lib.rt:146:11
 trace-cause-requires : tie.Need-trace-cause-requires
 trace-cause-requires c κs = search needs
 
--- src/lib.rt:147:29
 enum-known-index : tie.Need-enum-known-index
 enum-known-index c = search needs
 
--- src/lib.rt:148:25
 enum-known-scan : tie.Need-enum-known-scan
 enum-known-scan c = search needs
 
--- src/lib.rt:149:17
 is-instance-requires : tie.Need-is-instance-requires
 is-instance-requires c κs = search needs
 
--- src/lib.rt:150:13
 write-message-requires : tie.Need-write-message-requires
 write-message-requires c κs = search needs
 
--- src/lib.rt:126:1
 same-length-2 : tie.Need-same-length-2
 same-length-2 c = search needs
 
--- src/lib.rt:126:1
 returns-2 : tie.Need-returns-2
 returns-2 c =
-    let a = c .before .before .before .before .before .before .before .before .before .before .before .before .before .before .before .before .before .args in
-    let p = partsBy (a .flags) (a .at) (now (a .code)) (now (a .signature)) (now (a .members)) (a .member-count) (now (a .records)) (a .record-count) in
-    let told = reporting.is-roomless p (length (now (a .stack))) (now (a .out)) _ _ _ (sym (c .before .before .before .before .before .before .before .before .before .before .decode-fault .ensures) ∙ c .before .before .before .before .before .before .before .before .action .given .1)
-    (sym (c .before .before .before .before .before .trace-cause .ensures .0) ∙ c .before .index .given .1) in
-    (told .0, (told .1, c .before .before .before .before .before .trace-cause .ensures .1))
+    let trace = c .before .before .before .before .before in
+    let decode = trace .before .before .before in
+    let a = decode .before .before .before .before .before .before .before .before .before .args in
+    let p = partsBy (a .flags) (a .at) (now (a .code)) (now (a .signature)) (now (a .members)) (a .member-count)
+    (now (a .records)) (a .record-count) in
+    let told =
+    reporting.is-roomless p (length (now (a .stack))) (now (a .out)) _ _ _
+    (sym (decode .before .before .decode-fault .ensures) ∙ decode .action .given .1)
+    (sym (trace .trace-cause .ensures .0) ∙ c .before .index .given .1) in
+    (told .0, (told .1, trace .trace-cause .ensures .1))
 
--- src/lib.rt:126:1
 same-length-3 : tie.Need-same-length-3
 same-length-3 c = search needs
 
--- src/lib.rt:126:1
 same-length-4 : tie.Need-same-length-4
 same-length-4 c = search needs
 
--- src/lib.rt:126:1
 returns-3 : tie.Need-returns-3
 returns-3 c =
-    let a = c .before .before .before .before .before .before .before .before .before .before .before .before .before .before .before .before .before .before .before .before .before .before .args in
-    let p = partsBy (a .flags) (a .at) (now (a .code)) (now (a .signature)) (now (a .members)) (a .member-count) (now (a .records)) (a .record-count) in
-    let told = reporting.is-said p (length (now (a .stack))) (now (a .out)) _ _ _ _ _ (sym (c .before .before .before .before .before .before .before .before .before .before .before .before .before .before .before .decode-fault .ensures) ∙ c .before .before .before .before .before .before .before .before .before .before .before .before .before .action .given .1)
-    (sym (c .before .before .before .before .before .before .before .before .before .before .trace-cause .ensures .0) ∙ c .before .before .before .before .before .before .scan .given .1) _ (c .before .before .before .before .is-instance .ensures) _ _ (c .before .before .write-message .ensures .0) (c .before .before .write-message .ensures .1) in
-    (told .0, (told .1, c .before .before .before .before .before .before .before .before .before .before .trace-cause .ensures .1))
+    let traced = c .before .before .before .before .before .before in
+    let trace = traced .before .before .before .before in
+    let decode = trace .before .before .before in
+    let a = decode .before .before .before .before .before .before .before .before .before .args in
+    let p = partsBy (a .flags) (a .at) (now (a .code)) (now (a .signature)) (now (a .members)) (a .member-count)
+    (now (a .records)) (a .record-count) in
+    let told =
+    reporting.is-said p (length (now (a .stack))) (now (a .out)) _ _ _ _ _
+    (sym (decode .before .before .decode-fault .ensures) ∙ decode .action .given .1)
+    (sym (trace .trace-cause .ensures .0) ∙ traced .scan .given .1) _
+    (c .before .before .before .before .is-instance .ensures) _ _
+    (c .before .before .write-message .ensures .0) (c .before .before .write-message .ensures .1) in
+    (told .0, (told .1, trace .trace-cause .ensures .1))
 
 pub report-parts-spec : {M : Type 1} → statement M
 report-parts-spec =

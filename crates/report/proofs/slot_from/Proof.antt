@@ -1,36 +1,30 @@
-use borrow.Author.Tests.{lt-ltb, le-ltb}
+-- `report::slot_from` meets its contract. The cell is read only where the height exceeds the depth.
+-- Assumes nothing.
 use borrow.Author.Needs.{needs}
+use borrow.Author.Tests.{lt-ltb, le-ltb}
 use Rattle.report.proofs.slot_from.Statement.{statement}
 use Rattle.report.proofs.slot_from.Tie as tie
-use Rattle.report.proofs.slot_from.Reads as reads
-use Rattle.report.proofs.slot_from.Lts as lts
-use Rattle.block.proofs.unpack.Reads as unpack-reads
 
--- src/lib.rt:48:36
 sub-unpack : tie.Need-sub-unpack
 sub-unpack c = search needs
 
--- src/lib.rt:48:36
 sub-unpack-2 : tie.Need-sub-unpack-2
 sub-unpack-2 c = search needs
 
--- src/lib.rt:48:30
 mul-unpack : tie.Need-mul-unpack
 mul-unpack c = search needs
 
--- src/lib.rt:48:30
 shared-slice-read-unpack : tie.Need-shared-slice-read-unpack
 shared-slice-read-unpack c = search needs
 
--- src/lib.rt:48:9
 unpack-requires : tie.Need-unpack-requires
 unpack-requires c κs = search needs
 
--- src/lib.rt:48:9
 returns : tie.Need-returns
-returns c = rw (lt-ltb (c .before .before .before .before .args .depth) (c .before .before .before .before .args .height) (c .before .before .if1 .taken)) (c .unpack .ensures)
+returns c =
+    let a = c .before .before .before .before .args in
+    rw (lt-ltb (a .depth) (a .height) (c .before .before .if1 .taken)) (c .unpack .ensures)
 
--- src/lib.rt:43:1
 returns-2 : tie.Need-returns-2
 returns-2 c = rw (le-ltb (c .before .before .args .depth) (c .before .before .args .height) (c .if1 .left))
 

@@ -1,84 +1,86 @@
+-- `report::trace_block` meets its contract. By the walk's answer; its slots stand in the cells that it leaves.
+-- Assumes nothing.
+use Prim.Native.Nat.{ℕ}
+use native.Mathlib.Omega.{arith}
+use mathlib.Core.Path.{_≡_, sym, ap, _∙_}
+use lib.ListN.{length, replicate}
+use borrow.Author.Needs.{needs}
+use denote.Ref.{now}
 use Rattle.block.specs.Room.{blockWalk}
 use Rattle.report.proofs.Tracing as tracing
-use denote.Ref.{now}
-use lib.ListN.{length, replicate}
-use Prim.Native.Nat.{ℕ}
-use mathlib.Core.Path.{_≡_, sym, ap, _∙_}
-use native.Mathlib.Omega.{arith}
-use borrow.Author.Needs.{needs}
 use Rattle.report.proofs.trace_block.Statement.{statement}
 use Rattle.report.proofs.trace_block.Tie as tie
-use Rattle.report.proofs.trace_block.Reads as reads
-use Rattle.report.proofs.trace_block.Lts as lts
-use Rattle.block.proofs.clear.Reads as clear-reads
-use Rattle.block.proofs.simulate_block.Reads as simulate-block-reads
-use Rattle.report.proofs.slot_from.Reads as slot-from-reads
 
--- src/lib.rt:58:11
 simulate-block-requires : tie.Need-simulate-block-requires
 simulate-block-requires c κs = search needs
 
--- src/lib.rt:59:24
 enum-known-at : tie.Need-enum-known-at
 enum-known-at c = search needs
 
--- src/lib.rt:60:31
 enum-known-block : tie.Need-enum-known-block
 enum-known-block c = search needs
 
--- src/lib.rt:61:22
 enum-known-height : tie.Need-enum-known-height
 enum-known-height c = search needs
 
--- src/lib.rt:62:17
 slot-from-requires : tie.Need-slot-from-requires
 slot-from-requires c κs =
-    let a = c .before .before .before .before .before .before .before .before .before .before .before .args in
-    let walked = blockWalk (now (a .code)) (now (a .members)) (a .count) (a .leader) (a .fault) (length (now (a .stack))) in
-    let done = tracing.finished (a .scan) (a .depth) (length (now (a .stack))) walked _ _ (sym (c .before .before .height .given .1) ∙ c .before .before .before .before .before .before .simulate-block .ensures .0) in
-    tracing.reaches (a .scan) (a .depth) (length (now (a .stack))) walked _ _ done _ (c .before .before .before .before .before .before .simulate-block .ensures .1)
+    let walk = c .before .before .before .before .before .before in
+    let a = walk .before .before .before .before .before .args in
+    let room : ℕ = length (now (a .stack)) in
+    let walked = blockWalk (now (a .code)) (now (a .members)) (a .count) (a .leader) (a .fault) room in
+    let done =
+    tracing.finished (a .scan) (a .depth) room walked _ _
+    (sym (c .before .before .height .given .1) ∙ walk .simulate-block .ensures .0) in
+    tracing.reaches (a .scan) (a .depth) room walked _ _ done _ (walk .simulate-block .ensures .1)
 
--- src/lib.rt:63:13
 clear-requires : tie.Need-clear-requires
 clear-requires c κs = search needs
 
--- src/lib.rt:54:1
 same-length : tie.Need-same-length
 same-length c = search needs
 
--- src/lib.rt:54:1
 returns : tie.Need-returns
 returns c =
-    let a = c .before .before .before .before .before .before .before .before .before .before .args in
-    let walked = blockWalk (now (a .code)) (now (a .members)) (a .count) (a .leader) (a .fault) (length (now (a .stack))) in
-    let told = tracing.lacked (a .scan) (a .depth) (length (now (a .stack))) walked _ _ (sym (c .before .at .given .1) ∙ c .before .before .before .before .before .simulate-block .ensures .0) in
-    (told .0, told .1 (c .before .before .before .before .before .simulate-block .ensures .1))
+    let walk = c .before .before .before .before .before in
+    let a = walk .before .before .before .before .before .args in
+    let room : ℕ = length (now (a .stack)) in
+    let walked = blockWalk (now (a .code)) (now (a .members)) (a .count) (a .leader) (a .fault) room in
+    let told =
+    tracing.lacked (a .scan) (a .depth) room walked _ _
+    (sym (c .before .at .given .1) ∙ walk .simulate-block .ensures .0) in
+    (told .0, told .1 (walk .simulate-block .ensures .1))
 
--- src/lib.rt:54:1
 same-length-2 : tie.Need-same-length-2
 same-length-2 c = search needs
 
--- src/lib.rt:54:1
 returns-2 : tie.Need-returns-2
 returns-2 c =
-    let a = c .before .before .before .before .before .before .before .before .before .before .args in
-    let walked = blockWalk (now (a .code)) (now (a .members)) (a .count) (a .leader) (a .fault) (length (now (a .stack))) in
-    let told = tracing.failing (a .scan) (a .depth) (length (now (a .stack))) walked _ _ (sym (c .before .block .given .1) ∙ c .before .before .before .before .before .simulate-block .ensures .0) in
-    (told .0, told .1 (c .before .before .before .before .before .simulate-block .ensures .1))
+    let walk = c .before .before .before .before .before in
+    let a = walk .before .before .before .before .before .args in
+    let room : ℕ = length (now (a .stack)) in
+    let walked = blockWalk (now (a .code)) (now (a .members)) (a .count) (a .leader) (a .fault) room in
+    let told =
+    tracing.failing (a .scan) (a .depth) room walked _ _
+    (sym (c .before .block .given .1) ∙ walk .simulate-block .ensures .0) in
+    (told .0, told .1 (walk .simulate-block .ensures .1))
 
--- src/lib.rt:54:1
 same-length-3 : tie.Need-same-length-3
 same-length-3 c = search needs
 
--- src/lib.rt:54:1
 returns-3 : tie.Need-returns-3
 returns-3 c =
-    let a = c .before .before .before .before .before .before .before .before .before .before .before .before .before .before .before .before .args in
-    let walked = blockWalk (now (a .code)) (now (a .members)) (a .count) (a .leader) (a .fault) (length (now (a .stack))) in
+    let looked = c .before .before .before .before in
+    let walk = looked .before .before .before .before .before .before .before in
+    let a = walk .before .before .before .before .before .args in
     let room : ℕ = length (now (a .stack)) in
-    let done = tracing.finished (a .scan) (a .depth) room walked _ _ (sym (c .before .before .before .before .before .before .before .height .given .1) ∙ c .before .before .before .before .before .before .before .before .before .before .before .simulate-block .ensures .0) in
-    let size : length (c .before .before .before .before .before .before .before .before .before .before .before .simulate-block .last .1 .1 .1 .1 .1 .0) ≡ room = omega arith in (
-      tracing.traces (a .scan) (a .depth) room walked _ _ done _ (c .before .before .before .before .before .before .before .before .before .before .before .simulate-block .ensures .1) _ (c .before .before .before .before .slot-from .ensures),
+    let walked = blockWalk (now (a .code)) (now (a .members)) (a .count) (a .leader) (a .fault) room in
+    let done =
+    tracing.finished (a .scan) (a .depth) room walked _ _
+    (sym (looked .before .before .before .height .given .1) ∙ walk .simulate-block .ensures .0) in
+    let size : length (walk .simulate-block .last .1 .1 .1 .1 .1 .0) ≡ room = omega arith in (
+      tracing.traces (a .scan) (a .depth) room walked _ _ done _ (walk .simulate-block .ensures .1) _
+          (looked .slot-from .ensures),
       c .before .before .clear .ensures ∙ ap (λ (k : ℕ). replicate k 0) size,
     )
 

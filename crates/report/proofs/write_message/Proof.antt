@@ -1,52 +1,44 @@
-use Rattle.report.proofs.Writing as writing
-use Rattle.report.specs.Report.{kindOf}
-use denote.Ref.{now}
-use lib.ListN.{length}
+-- `report::write_message` meets its contract. The length measured with no output is the message's.
+-- Assumes nothing.
 use Prim.Native.Nat.{_-_, _^_, _<_}
-use mathlib.Core.List.{[]}
-use mathlib.Core.Path.{_≡_, refl}
 use native.Mathlib.Omega.{arith}
+use lib.ListN.{length}
 use borrow.Author.Needs.{needs}
+use denote.Ref.{now}
+use Rattle.report.specs.Report.{kindOf}
+use Rattle.report.proofs.Writing as writing
 use Rattle.report.proofs.write_message.Statement.{statement}
 use Rattle.report.proofs.write_message.Tie as tie
-use Rattle.report.proofs.write_message.Reads as reads
-use Rattle.report.proofs.write_message.Lts as lts
-use Rattle.message.proofs.put_message_at.Reads as put-message-at-reads
-use Rattle.report.proofs.kind_of.Reads as kind-of-reads
 
--- src/lib.rt:110:33
 slice-aggregate-put-message-at : tie.Need-slice-aggregate-put-message-at
 slice-aggregate-put-message-at c = search needs
 
--- src/lib.rt:110:9
 put-message-at-requires : tie.Need-put-message-at-requires
 put-message-at-requires c κs = search needs
 
--- src/lib.rt:112:9
 returns : tie.Need-returns
 returns c =
     let a = c .before .before .before .before .before .before .before .before .args in
-    writing.no-room _ (kindOf (a .cause)) (a .scan) (a .block) (now (a .out)) _ _ (c .before .before .put-message-at .ensures) (c .if1 .taken)
+    writing.no-room _ (kindOf (a .cause)) (a .scan) (a .block) (now (a .out)) _ _ (c .before .before .put-message-at .ensures)
+    (c .if1 .taken)
 
--- src/lib.rt:114:5
 put-message-at-requires-2 : tie.Need-put-message-at-requires-2
 put-message-at-requires-2 c κs = search needs
 
--- src/lib.rt:115:45
 kind-of-requires : tie.Need-kind-of-requires
 kind-of-requires c κs = search needs
 
--- src/lib.rt:93:1
 same-length : tie.Need-same-length
 same-length c = search needs
 
--- src/lib.rt:93:1
 returns-2 : tie.Need-returns-2
 returns-2 c =
-    let a = c .before .before .before .before .before .before .before .before .before .before .before .before .before .args in
+    let measured = c .before .before .before .before .before .before .before in
+    let a = measured .before .before .before .before .before .before .args in
     let small : length (now (a .out)) < 2 ^ 64 - 1 = omega arith in
     rw (c .kind-of .ensures)
-    (writing.room _ (kindOf (a .cause)) (a .scan) (a .block) (now (a .out)) _ _ (c .before .before .before .before .before .before .before .put-message-at .ensures) small (omega arith) _ _ (c .before .before .before .put-message-at2 .ensures))
+    (writing.room _ (kindOf (a .cause)) (a .scan) (a .block) (now (a .out)) _ _ (measured .put-message-at .ensures) small
+    (omega arith) _ _ (c .before .before .before .put-message-at2 .ensures))
 
 pub write-message-spec : {M : Type 1} → statement M
 write-message-spec =
