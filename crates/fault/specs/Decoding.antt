@@ -9,7 +9,7 @@ use Rattle.basics.specs.Bytes.{byteAt, u16At}
 use Rattle.basics.specs.Choice.{pick, both, oneOf, between, sameList}
 use Rattle.casefile.specs.Member.{memberFound}
 use Rattle.casefile.specs.Text.{nameOf}
-use Rattle.effects.specs.Depth.{Rule, Depth, nowhere, at, ruleOf, depthBy, depthOf}
+use Rattle.effects.specs.Depth.{Depth, nowhere, at, ruleOf, depthBy, depthOf}
 use Rattle.effects.specs.Lookup.{lookupIn}
 use Rattle.fault.specs.declared.Action.{Action}
 use Rattle.fault.specs.declared.Action.the-variants.{ReadField, AssignField, Invoke, LoadArray, StoreArray, ReadLength, ThrowException, EnterBlock, ExitBlock}
