@@ -18,8 +18,8 @@ use Rattle.fault.specs.declared.Action.{Action}
 use Rattle.fault.specs.declared.Fault.the-variants.{Failed}
 use Rattle.report.specs.Report.{messageOf, said, saidOf}
 
--- "A cause is given exactly when the walk succeeds, its height exceeds the depth, and the slot at that depth from the top is a
--- load".
+-- "A cause is given exactly when the walk succeeds, its height exceeds the depth, and the slot at that depth from the top is
+-- a load".
 pub record Caused (p : Parts) (room : ℕ) (message : List ℕ) (scan block : ℕ) : Type 0 where
   pub action : Action
   pub depth : ℕ
