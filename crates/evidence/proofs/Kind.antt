@@ -62,7 +62,7 @@ module _ (p : Parts) (room : ℕ) (message : List ℕ) (scan block : ℕ) where
               decodes = decodes;
               leads = leads ∙ ap (Leader leader) scans;
               walks = walks ∙ ap (λ (n : ℕ). fits (done slots n)) counts;
-              high = ltb-true depth (length slots) high;
+              high = omega (arith, ltb-true depth (length slots) high);
               slot = e;
               words = sym words;
             }
@@ -106,7 +106,7 @@ module _ (p : Parts) (room : ℕ) (message : List ℕ) (scan block : ℕ) where
   is-two : Caused p room message scan block → Two (saidOf p room)
   unfolding saidOf traced slotFrom
   is-two c =
-      rw (c .decodes, c .leads, c .walks, lt-ltb (c .depth) (length (c .slots)) (c .high), c .slot)
+      rw (c .decodes, c .leads, c .walks, lt-ltb (c .depth) (length (c .slots)) (omega (arith, c .high)), c .slot)
       (ap (λ (text : List ℕ). said text 2 scan block) (sym (c .words)))
 
 pub kind-two : KindTwo

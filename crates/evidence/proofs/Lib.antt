@@ -1,2 +1,3 @@
+pub mod Constant
 pub mod Evidence
 pub mod Kind
