@@ -8,6 +8,7 @@ use mathlib.Core.List.{List, [], _∷_}
 use lib.Dec.{T, ltb, ltb→lt}
 use lib.ListN.{length, getD, List·getD-eq-default}
 use borrow.Author.Tests.{ltb-true, ltb-false}
+use Rattle.basics.specs.Ascii.{ascii}
 use Rattle.basics.proofs.Every.{every, every-at}
 use Rattle.jvms.specs.Format.{formatOf}
 use Rattle.bytecode.specs.Length.{bytesOf, fixedLength, within, lengthOf}
@@ -30,11 +31,10 @@ use Rattle.block.specs.Walk.{step, walkFrom, walk}
 use Rattle.fault.specs.Decoding.{actionOf, decoded}
 use Rattle.locals.specs.Name.{firstMatch, signatureParameter, numberedName, localName}
 use Rattle.message.specs.Message.{actionText, causeText, messageText}
-use Rattle.report.specs.Report.{isInstance, messageOf, saidOf, reportOf, reportedIn}
+use Rattle.report.specs.Report.{isInstance, messageOf, saidOf, reportOf, reportedIn, numbered}
 use Rattle.report.specs.Trace.{slotFrom, traced}
-use Rattle.report.specs.declared.Report.{Report}
 use Rattle.report.specs.declared.Report.the-variants.{Message, Broken}
-use Rattle.evidence.specs.Constant.{reading, throwing, readingNull, blank, SmallCases, Lent, Program, Meets, NoConstant}
+use Rattle.evidence.specs.Constant.{reading, throwing, readingNull, blank, SmallCases, Lent, Always, Program, Meets, numberOf, NoConstant}
 
 pub small-cases : SmallCases
 unfolding reportOf reportedIn caseOf placesIn tablesAt textAt numberAt numberFrom runBy membersThen recordsThen partsOf
@@ -80,67 +80,74 @@ lent bytes t =
 
 -- ---- programs
 
-module _ (program : Program) where
-  one-answer :
-      (r : Report) → ((bytes stack out : List ℕ) → program .answer bytes stack out ≡ r) → Meets program → ⊥
-  one-answer r same meets =
-      let message : r ≡ Message 55 2 2 1 =
-      sym (same reading cell blank) ∙ meets .answers reading cell blank (lent reading tt) ∙ small-cases .reads in
-      let broken : r ≡ Broken 0 =
-      sym (same [] cell blank) ∙ meets .answers [] cell blank (lent [] tt) ∙ small-cases .broken in
-      let z : _≡_ {A = ℕ} 0 1 = cc in
+module _ (program : Program) (meets : Meets program) where
+  reads : program .answer reading cell blank ≡ Message 55 2 2 1
+  reads = meets .answers reading cell blank (lent reading tt) ∙ small-cases .reads
+
+  reads-text :
+      program .output reading cell blank ≡ over (ascii "Cannot read the array length because \"<local0>\" is null") blank
+  reads-text = meets .leaves reading cell blank (lent reading tt) ∙ small-cases .readsText
+
+  one-number : (n : ℕ) → Always (λ bytes stack out. numberOf (program .answer bytes stack out) ≡ n) → ⊥
+  unfolding numbered
+  one-number n same =
+      let message : 0 ≡ n = sym (ap numberOf reads) ∙ same reading cell blank (lent reading tt) in
+      let broken : program .answer [] cell blank ≡ Broken 0 =
+      meets .answers [] cell blank (lent [] tt) ∙ small-cases .broken in
+      let wrong : 2 ≡ n = sym (ap numberOf broken) ∙ same [] cell blank (lent [] tt) in
+      absurd (omega arith)
+
+  one-kind :
+      (k : ℕ) →
+      Always (λ bytes stack out. (size kind scan block : ℕ) →
+      program .answer bytes stack out ≡ Message size kind scan block → kind ≡ k) →
+      ⊥
+  one-kind k same =
+      let two : 2 ≡ k = same reading cell blank (lent reading tt) 55 2 2 1 reads in
+      let one : 1 ≡ k =
+      same readingNull cell blank (lent readingNull tt) 28 1 2 1
+      (meets .answers readingNull cell blank (lent readingNull tt) ∙ small-cases .readsNull) in
       absurd (omega arith)
 
   one-text :
       (text : List ℕ) →
-      ((bytes stack out : List ℕ) (size kind scan block : ℕ) → program .answer bytes stack out ≡ Message size kind scan block →
-      program .output bytes stack out ≡ over text out) →
-      Meets program → ⊥
+      Always (λ bytes stack out. (size kind scan block : ℕ) →
+      program .answer bytes stack out ≡ Message size kind scan block → program .output bytes stack out ≡ over text out) →
+      ⊥
   unfolding over
-  one-text text same meets =
-      let first =
-      sym (same reading cell blank 55 2 2 1 (meets .answers reading cell blank (lent reading tt) ∙ small-cases .reads))
-      ∙ meets .leaves reading cell blank (lent reading tt) ∙ small-cases .readsText in
+  one-text text same =
+      let first = sym (same reading cell blank (lent reading tt) 55 2 2 1 reads) ∙ reads-text in
+      let throws : program .answer throwing cell blank ≡ Message 49 2 2 1 =
+      meets .answers throwing cell blank (lent throwing tt) ∙ small-cases .throws in
       let second =
-      sym (same throwing cell blank 49 2 2 1 (meets .answers throwing cell blank (lent throwing tt) ∙ small-cases .throws))
+      sym (same throwing cell blank (lent throwing tt) 49 2 2 1 throws)
       ∙ meets .leaves throwing cell blank (lent throwing tt) ∙ small-cases .throwsText in
       -- "Cannot r", "Cannot t"
       let z : _≡_ {A = ℕ} 114 116 = ap (λ (l : List ℕ). getD l 7 0) (sym first ∙ second) in
       absurd (omega arith)
 
-  one-kind :
-      (k : ℕ) →
-      ((bytes stack out : List ℕ) (size kind scan block : ℕ) → program .answer bytes stack out ≡ Message size kind scan block →
-      kind ≡ k) →
-      Meets program → ⊥
-  one-kind k same meets =
-      let two : 2 ≡ k =
-      same reading cell blank 55 2 2 1 (meets .answers reading cell blank (lent reading tt) ∙ small-cases .reads) in
-      let one : 1 ≡ k =
-      same readingNull cell blank 28 1 2 1
-      (meets .answers readingNull cell blank (lent readingNull tt) ∙ small-cases .readsNull) in
-      absurd (omega arith)
-
-  same-output : ((bytes stack out : List ℕ) → program .output bytes stack out ≡ out) → Meets program → ⊥
+  same-output : Always (λ bytes stack out. program .output bytes stack out ≡ out) → ⊥
   unfolding over
-  same-output same meets =
-      let written =
-      sym (same reading cell blank) ∙ meets .leaves reading cell blank (lent reading tt) ∙ small-cases .readsText in
-      let z : _≡_ {A = ℕ} 0 67 = ap (λ (l : List ℕ). getD l 0 0) written in
+  same-output same =
+      let z : _≡_ {A = ℕ} 0 67 =
+      ap (λ (l : List ℕ). getD l 0 0) (sym (same reading cell blank (lent reading tt)) ∙ reads-text) in
       absurd (omega arith)
 
-  same-stack : ((bytes stack out : List ℕ) → program .stack bytes stack out ≡ stack) → Meets program → ⊥
-  same-stack same meets =
+  same-stack : Always (λ bytes stack out. program .stack bytes stack out ≡ stack) → ⊥
+  same-stack same =
       let z : _≡_ {A = ℕ} 1 0 =
-      ap (λ (l : List ℕ). getD l 0 0) (sym (same [] cell blank) ∙ meets .clears [] cell blank (lent [] tt)) in
+      ap (λ (l : List ℕ). getD l 0 0)
+      (sym (same [] cell blank (lent [] tt)) ∙ meets .clears [] cell blank (lent [] tt)) in
       absurd (omega arith)
 
 pub no-constant : NoConstant
-no-constant =
+no-constant program meets =
     record {
-      oneAnswer = one-answer;
-      oneText = one-text;
-      oneKind = one-kind;
-      sameOutput = same-output;
-      sameStack = same-stack;
+      number = one-number program meets;
+      answer = λ r same.
+          one-number program meets (numberOf r) (λ bytes stack out l. ap numberOf (same bytes stack out l));
+      kind = one-kind program meets;
+      text = one-text program meets;
+      output = same-output program meets;
+      stack = same-stack program meets;
     }

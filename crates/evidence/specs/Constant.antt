@@ -1,5 +1,5 @@
--- No constant program meets the contract of `build_message`: none with one answer, none with one text, none that leaves the
--- output as it was, none that leaves the stack as it was.
+-- No constant program meets the contract of `build_message`: none with one answer, one kind or one text, none that leaves
+-- the output as it was, and none that leaves the stack as it was.
 -- Assumes nothing.
 use Prim.Native.Nat.{ℕ, _^_, _<_}
 use mathlib.Core.Path.{_≡_}
@@ -8,7 +8,7 @@ use lib.ListN.{length, getD, replicate}
 use Rattle.basics.specs.Ascii.{ascii}
 use Rattle.basics.specs.Bytes.{AreBytes}
 use Rattle.text.specs.Writing.{over}
-use Rattle.report.specs.Report.{reportOf, reportedIn}
+use Rattle.report.specs.Report.{reportOf, reportedIn, numbered}
 use Rattle.report.specs.declared.Report.{Report}
 use Rattle.report.specs.declared.Report.the-variants.{Message, NoMessage, Broken, NoRoom, NoOutput}
 
@@ -52,6 +52,10 @@ pub record Lent (bytes stack out : List ℕ) : Type 0 where
   pub cells : (i : ℕ) → getD stack i 0 < 2 ^ 64
   pub output : AreBytes out
 
+-- it holds of all that can be lent
+abbrev pub Always : (List ℕ → List ℕ → List ℕ → Type 0) → Type 0
+Always P = (bytes stack out : List ℕ) → Lent bytes stack out → P bytes stack out
+
 -- what a program makes of them: its answer, and the output and the stack at exit
 pub record Program : Type 0 where
   pub answer : List ℕ → List ℕ → List ℕ → Report
@@ -60,32 +64,34 @@ pub record Program : Type 0 where
 
 -- the contract of `build_message`
 pub record Meets (program : Program) : Type 0 where
-  pub answers :
-      (bytes stack out : List ℕ) → Lent bytes stack out →
-      program .answer bytes stack out ≡ reportOf bytes (length stack) (length out)
-  pub leaves :
-      (bytes stack out : List ℕ) → Lent bytes stack out →
-      program .output bytes stack out ≡ reportedIn bytes (length stack) out
-  pub clears :
-      (bytes stack out : List ℕ) → Lent bytes stack out → program .stack bytes stack out ≡ replicate (length stack) 0
+  pub answers : Always (λ bytes stack out. program .answer bytes stack out ≡ reportOf bytes (length stack) (length out))
+  pub leaves : Always (λ bytes stack out. program .output bytes stack out ≡ reportedIn bytes (length stack) out)
+  pub clears : Always (λ bytes stack out. program .stack bytes stack out ≡ replicate (length stack) 0)
 
-pub record NoConstant : Type 0 where
-  -- one answer for all: none that always answers 1, none that always answers 3
-  pub oneAnswer :
-      (program : Program) (r : Report) → ((bytes stack out : List ℕ) → program .answer bytes stack out ≡ r) → Meets program → ⊥
-  -- one text for all that get a message
-  pub oneText :
-      (program : Program) (text : List ℕ) →
-      ((bytes stack out : List ℕ) (size kind scan block : ℕ) → program .answer bytes stack out ≡ Message size kind scan block →
-      program .output bytes stack out ≡ over text out) →
-      Meets program → ⊥
-  -- one kind for all that get a message: none that never names a cause, none that always does
-  pub oneKind :
-      (program : Program) (k : ℕ) →
-      ((bytes stack out : List ℕ) (size kind scan block : ℕ) → program .answer bytes stack out ≡ Message size kind scan block →
-      kind ≡ k) →
-      Meets program → ⊥
-  pub sameOutput :
-      (program : Program) → ((bytes stack out : List ℕ) → program .output bytes stack out ≡ out) → Meets program → ⊥
-  pub sameStack :
-      (program : Program) → ((bytes stack out : List ℕ) → program .stack bytes stack out ≡ stack) → Meets program → ⊥
+-- document 01's number of an answer
+abbrev pub numberOf : Report → ℕ
+numberOf r = getD (numbered r) 0 0
+
+-- a program has no one answer for all, and so on
+pub record Varied (program : Program) : Type 0 where
+  -- no one number for all cases: it doesn't always answer 1, nor always 3
+  pub number : (n : ℕ) → Always (λ bytes stack out. numberOf (program .answer bytes stack out) ≡ n) → ⊥
+  pub answer : (r : Report) → Always (λ bytes stack out. program .answer bytes stack out ≡ r) → ⊥
+  -- no one kind for all that get a message: there are causes, and messages without
+  pub kind :
+      (k : ℕ) →
+      Always (λ bytes stack out. (size kind scan block : ℕ) →
+      program .answer bytes stack out ≡ Message size kind scan block → kind ≡ k) →
+      ⊥
+  -- no one text for all that get a message
+  pub text :
+      (text : List ℕ) →
+      Always (λ bytes stack out. (size kind scan block : ℕ) →
+      program .answer bytes stack out ≡ Message size kind scan block → program .output bytes stack out ≡ over text out) →
+      ⊥
+  -- no output that is always left as it was, and no such stack
+  pub output : Always (λ bytes stack out. program .output bytes stack out ≡ out) → ⊥
+  pub stack : Always (λ bytes stack out. program .stack bytes stack out ≡ stack) → ⊥
+
+abbrev pub NoConstant : Type 0
+NoConstant = (program : Program) → Meets program → Varied program
