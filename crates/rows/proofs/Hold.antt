@@ -35,7 +35,7 @@ use Rattle.locals.specs.Name.{firstMatch, signatureParameter, numberedName, loc
 use Rattle.message.specs.Message.{methodText, invokeText, actionText, causeText, messageText}
 use Rattle.report.specs.Report.{isInstance, messageOf, saidOf, reportOf, reportedIn, numbered as reported}
 use Rattle.report.specs.Trace.{slotFrom, traced}
-use Rattle.rows.specs.Rows.{AllHold, rows}
+use Rattle.rows.specs.Rows.{AllHold, none, _&_, rows}
 
 pub rows-hold : AllHold rows
 unfolding rows
@@ -49,40 +49,6 @@ unfolding rows
     descriptorOf traced blockWalk completed completedFrom walk walkFrom step rowOf fixedLength slotFrom
     messageOf messageText actionText invokeText methodText causeText localName recordsIn firstMatch signatureParameter
     parameterAt startingAt numberedName decimal digits isInstance over
-rows-hold = (
-  refl,
-  (
-    refl,
-    (
-      refl,
-      (
-        refl,
-        (
-          refl,
-          (
-            refl,
-            (
-              refl,
-              (
-                refl,
-                (
-                  (refl, refl),
-                  (
-                    (refl, refl),
-                    (
-                      refl,
-                      (
-                        (refl, refl),
-                        (refl, (refl, (refl, (refl, (refl, (refl, ((refl, refl), tt))))))),
-                      ),
-                    ),
-                  ),
-                ),
-              ),
-            ),
-          ),
-        ),
-      ),
-    ),
-  ),
-)
+rows-hold =
+    refl & refl & refl & refl & refl & refl & refl & refl & refl & refl & refl & refl
+    & refl & refl & refl & refl & refl & refl & refl & refl & refl & none
