@@ -58,7 +58,7 @@ small-cases =
 -- ---- what can be lent
 
 -- every number of a list is below a limit, as a computed test finds
-all-below :
+pub all-below :
     (limit : ℕ) (xs : List ℕ) → T (ltb 0 limit) → T (every (λ i. ltb (getD xs i 0) limit) (length xs)) →
     (i : ℕ) → getD xs i 0 < limit
 all-below limit xs some t i = by-place (ltb i (length xs)) refl
