@@ -4,7 +4,7 @@ use Prim.Native.Nat.{ℕ, _-_}
 use native.Mathlib.Omega.{arith}
 use mathlib.Core.Path.{_≡_, refl, _∙_, sym, ap}
 use mathlib.Core.Bool.{Bool, true, false}
-use mathlib.Core.List.{List, []}
+use mathlib.Core.List.{List, [], append-nil}
 use mathlib.Core.Logic.{_⊎_, inl, inr}
 use lib.Dec.{ltb}
 use lib.ListN.{length, getD}
@@ -24,11 +24,12 @@ use Rattle.fault.specs.Decoding.{decoded}
 use Rattle.fault.specs.declared.Action.{Action}
 use Rattle.fault.specs.declared.Fault.{Fault}
 use Rattle.fault.specs.declared.Fault.the-variants.{Failed, Nothing}
+use Rattle.message.specs.Message.{actionText, causeText, messageText}
 use Rattle.report.specs.Report.{kindOf, messageOf, Said, said, saidBy, saidAt, saidOf}
 use Rattle.report.specs.Trace.{slotFrom, traceOf, tracedBy, traced}
 use Rattle.report.specs.declared.Trace.{Trace}
 use Rattle.report.specs.declared.Trace.the-variants.{NoRoom, Traced}
-use Rattle.evidence.specs.Kind.{Caused, KindTwo, OneOrTwo}
+use Rattle.evidence.specs.Kind.{Caused, KindTwo, ActionAlone, OneOrTwo}
 
 -- ---- kind 2 has a cause: what is said is taken apart, from the fault to the slot
 
@@ -115,23 +116,36 @@ kind-two = record { only = has-cause; always = is-two }
 -- ---- no other kind
 
 module _ (p : Parts) (room : ℕ) (message : List ℕ) (kind scan block : ℕ) where
-  by-cause :
-      (action : Action) (cause : Slot) (scanned count : ℕ) →
-      said (messageOf p action cause) (kindOf cause) scanned count ≡ said message kind scan block → (kind ≡ 1) ⊎ (kind ≡ 2)
-  by-cause action Other scanned count told = inl cc
-  by-cause action (Loaded load local) scanned count told = inr cc
+  abbrev Kinds : Type 0
+  Kinds = ((kind ≡ 1) × ActionAlone p message) ⊎ (kind ≡ 2)
 
-  by-trace :
-      (action : Action) (trace : Trace) → saidBy p action trace ≡ said message kind scan block → (kind ≡ 1) ⊎ (kind ≡ 2)
-  by-trace action (NoRoom index) told = let z : _≡_ {A = ℕ} 0 1 = cc in absurd (omega arith)
-  by-trace action (Traced scanned count cause) told = by-cause action cause scanned count told
+  module _ (action : Action) (depth : ℕ)
+      (decodes : decoded (p .code) (p .members) (p .memberCount) (p .fault) ≡ Failed action depth) where
+    plain : messageOf p action Other ≡ actionText (p .members) (p .memberCount) action
+    unfolding messageOf messageText causeText
+    plain = append-nil (actionText (p .members) (p .memberCount) action)
 
-  by-decoding : (fault : Fault) → saidAt p room fault ≡ said message kind scan block → (kind ≡ 1) ⊎ (kind ≡ 2)
-  by-decoding Nothing told = let z : _≡_ {A = ℕ} 0 1 = cc in absurd (omega arith)
-  by-decoding (Failed action depth) told =
-      by-trace action (traced (p .code) (p .members) (p .memberCount) (p .fault) depth room) told
+    by-cause :
+        (cause : Slot) (scanned count : ℕ) →
+        said (messageOf p action cause) (kindOf cause) scanned count ≡ said message kind scan block → Kinds
+    by-cause Other scanned count told =
+        let one : kind ≡ 1 = cc in
+        let same : message ≡ messageOf p action Other = cc in
+        inl (one, record { action = action; depth = depth; decodes = decodes; words = same ∙ plain })
+    by-cause (Loaded load local) scanned count told = inr cc
+
+    by-trace : (trace : Trace) → saidBy p action trace ≡ said message kind scan block → Kinds
+    by-trace (NoRoom index) told = let z : _≡_ {A = ℕ} 0 1 = cc in absurd (omega arith)
+    by-trace (Traced scanned count cause) told = by-cause cause scanned count told
+
+  by-decoding :
+      (fault : Fault) → decoded (p .code) (p .members) (p .memberCount) (p .fault) ≡ fault →
+      saidAt p room fault ≡ said message kind scan block → Kinds
+  by-decoding Nothing e told = let z : _≡_ {A = ℕ} 0 1 = cc in absurd (omega arith)
+  by-decoding (Failed action depth) e told =
+      by-trace action depth e (traced (p .code) (p .members) (p .memberCount) (p .fault) depth room) told
 
 pub one-or-two : OneOrTwo
 unfolding saidOf
 one-or-two p room message kind scan block told =
-    by-decoding p room message kind scan block (decoded (p .code) (p .members) (p .memberCount) (p .fault)) told
+    by-decoding p room message kind scan block (decoded (p .code) (p .members) (p .memberCount) (p .fault)) refl told

@@ -1,6 +1,7 @@
 -- "A name must be evidence" (tender, condition 3), of the report itself: where the message names a local, the value that the
--- faulting instruction would dereference is the one that this local held when it was loaded. It joins what the message says
--- to what condition 3 says of the walk. proofs/Evidence.antt has its proof.
+-- faulting instruction would dereference is the one that this local held when it was loaded. So where that value is null, the
+-- local was null, as the message says. proofs/Evidence.antt has its proof.
+-- As condition 3, it does not cover handler entries: an exception handler that begins inside the block enters it too.
 -- Assumes nothing.
 use Prim.Native.Nat.{ℕ, _≤_, _<_}
 use mathlib.Core.Path.{_≡_}

@@ -16,6 +16,7 @@ use Rattle.block.specs.declared.Slot.the-variants.{Loaded}
 use Rattle.fault.specs.Decoding.{decoded}
 use Rattle.fault.specs.declared.Action.{Action}
 use Rattle.fault.specs.declared.Fault.the-variants.{Failed}
+use Rattle.message.specs.Message.{actionText}
 use Rattle.report.specs.Report.{messageOf, said, saidOf}
 
 -- "A cause is given exactly when the walk succeeds, its height exceeds the depth, and the slot at that depth from the top is
@@ -47,8 +48,15 @@ pub record KindTwo : Type 0 where
       (p : Parts) (room : ℕ) (message : List ℕ) (scan block : ℕ) → Caused p room message scan block →
       saidOf p room ≡ said message 2 scan block
 
--- every message is of kind 1 or of kind 2
+-- the message is the fault's action, and nothing more
+pub record ActionAlone (p : Parts) (message : List ℕ) : Type 0 where
+  pub action : Action
+  pub depth : ℕ
+  pub decodes : decoded (p .code) (p .members) (p .memberCount) (p .fault) ≡ Failed action depth
+  pub words : message ≡ actionText (p .members) (p .memberCount) action
+
+-- every message is of kind 1, with the action alone, or of kind 2
 abbrev pub OneOrTwo : Type 0
 OneOrTwo =
     (p : Parts) (room : ℕ) (message : List ℕ) (kind scan block : ℕ) → saidOf p room ≡ said message kind scan block →
-    (kind ≡ 1) ⊎ (kind ≡ 2)
+    ((kind ≡ 1) × ActionAlone p message) ⊎ (kind ≡ 2)
