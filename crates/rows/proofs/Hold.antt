@@ -4,19 +4,38 @@ use mathlib.Core.Path.{refl}
 use Rattle.basics.specs.Bytes.{u16At, u32At}
 use Rattle.jvms.specs.Format.{formatOf}
 use Rattle.bytecode.specs.Signed.{lifted, i16At, i32At}
-use Rattle.bytecode.specs.Length.{tableEntries, lookupPairs, tableBytes, lookupBytes, wideBytes, bytesOf, within, lengthOf}
+use Rattle.bytecode.specs.Length.{tableEntries, lookupPairs, tableBytes, lookupBytes, wideBytes, bytesOf, fixedLength, within, lengthOf}
 use Rattle.leader.specs.Greatest.{upTo, greatest}
 use Rattle.leader.specs.Scan.{scanFrom, instructions, scanCount, leadersOf, answered, blockLeader}
 use Rattle.leader.specs.Targets.{kindOf, target, entryTargets, switchTargets, leadersAt}
-use Rattle.descriptor.specs.Readers.{slotsOf, judged, parameters, closing, slotsBehind, returnSlots}
+use Rattle.descriptor.specs.Readers.{slotsOf, judged, parameters, startingAt, parameterAt, closing, slotsBehind, returnSlots}
 use Rattle.descriptor.specs.Search.{firstIn, firstFrom}
 use Rattle.descriptor.specs.Types.{brackets, typeBehind, fieldTypeAt, typeSlots, typesFrom, typesAt, typesOf}
+use Rattle.text.specs.Decimal.{digits, decimal}
+use Rattle.text.specs.Writing.{over}
 use Rattle.names.specs.Names.{dotOf, dotted, className, baseNames, baseName, elementName, bracketPairs, typeName, typeNames, commaed, joined, parameterNames}
 use Rattle.jtype.specs.OneType.{brackets as strictBrackets, isBase, unnamedType, element, typeIn, typeAt}
 use Rattle.jtype.specs.Refusal.{numberOf}
 use Rattle.jdescriptor.specs.Answer.{answer, numbered}
 use Rattle.jdescriptor.specs.Reading.{typeReading, returnAt, parametersAt, methodReading}
-use Rattle.rows.specs.Rows.{AllHold, rows}
+use Rattle.casefile.specs.Layout.{membersThen, recordsThen, runBy}
+use Rattle.casefile.specs.LocalRecord.{recordsIn}
+use Rattle.casefile.specs.Member.{memberAt, memberFound}
+use Rattle.casefile.specs.Number.{numberFrom, numberAt}
+use Rattle.casefile.specs.Parts.{partsOf}
+use Rattle.casefile.specs.Text.{textAt, textPart, afterText, classOf, nameOf, descriptorOf}
+use Rattle.casefile.specs.Whole.{tablesAt, placesIn, caseOf}
+use Rattle.effects.specs.Depth.{ruleOf, depthOf}
+use Rattle.effects.specs.Lookup.{lookupIn}
+use Rattle.effects.specs.Rows.{rowOf}
+use Rattle.block.specs.Room.{completedFrom, completed, blockWalk}
+use Rattle.block.specs.Walk.{step, walkFrom, walk}
+use Rattle.fault.specs.Decoding.{actionOf, constructs, decoded}
+use Rattle.locals.specs.Name.{firstMatch, signatureParameter, numberedName, localName}
+use Rattle.message.specs.Message.{methodText, invokeText, actionText, causeText, messageText}
+use Rattle.report.specs.Report.{isInstance, messageOf, saidOf, reportOf, reportedIn, numbered as reported}
+use Rattle.report.specs.Trace.{slotFrom, traced}
+use Rattle.rows.specs.Rows.{AllHold, none, _&_, rows}
 
 pub rows-hold : AllHold rows
 unfolding rows
@@ -25,5 +44,11 @@ unfolding rows
     parameters judged slotsOf typesOf typesAt typesFrom fieldTypeAt typeBehind brackets firstFrom firstIn typeSlots returnSlots closing slotsBehind
     parameterNames joined commaed typeNames typeName elementName baseName baseNames bracketPairs className dotted dotOf
     numbered numberOf answer typeReading methodReading parametersAt returnAt typeAt typeIn strictBrackets element isBase unnamedType
+    reported reportOf reportedIn caseOf placesIn tablesAt textAt numberAt numberFrom runBy membersThen recordsThen partsOf
+    saidOf decoded depthOf ruleOf actionOf constructs lookupIn memberFound memberAt textPart afterText classOf nameOf
+    descriptorOf traced blockWalk completed completedFrom walk walkFrom step rowOf fixedLength slotFrom
+    messageOf messageText actionText invokeText methodText causeText localName recordsIn firstMatch signatureParameter
+    parameterAt startingAt numberedName decimal digits isInstance over
 rows-hold =
-    (refl, (refl, (refl, (refl, (refl, (refl, (refl, (refl, (refl, ((refl, refl), (refl, (refl, (refl, (refl, (refl, (refl, tt))))))))))))))))
+    refl & refl & refl & refl & refl & refl & refl & refl & refl & refl & refl & refl
+    & refl & refl & refl & refl & refl & refl & refl & refl & refl & none

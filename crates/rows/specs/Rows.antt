@@ -1,9 +1,9 @@
--- The rows of document 01's "Bench rows" that are marked P, as one table.
+-- The rows of document 01's "Bench rows" that are marked P, and the example of its program, as one table.
 -- Assumes nothing.
 use Prim.Native.Nat.{ℕ}
 use mathlib.Core.Path.{_≡_}
 use mathlib.Core.List.{List, [], _∷_, _++_}
-use lib.ListN.{replicate}
+use lib.ListN.{length, replicate}
 use Rattle.bytecode.specs.Length.{lengthOf}
 use Rattle.bytecode.specs.declared.Measure.{Measure}
 use Rattle.bytecode.specs.declared.Measure.the-variants.{Length, NoLength}
@@ -19,6 +19,19 @@ use Rattle.leader.specs.declared.Scan.the-variants.{Leader}
 use Rattle.names.specs.Names.{parameterNames}
 use Rattle.jdescriptor.specs.Answer.{answer, numbered}
 use Rattle.jdescriptor.specs.Reading.{typeReading, methodReading}
+use Rattle.report.specs.Report.{reportOf, reportedIn, numbered as reported}
+
+-- the bytes of a static method's case with a fault and a code, both short; no signature, no members, no records
+abbrev pub static : ℕ → List ℕ → List ℕ
+static fault code = 8 ∷ fault ∷ length code ∷ (code ++ (0 ∷ 0 ∷ 0 ∷ []))
+
+-- "Static method, flags 8, fault 1, code 2a b6 00 01 57 b1, signature `m:(Ljava/lang/String;)V`, member 1 method
+-- `java/lang/String` `length` `()I`, no records: 65 bytes"
+abbrev pub example : List ℕ
+example =
+    0x08 ∷ 0x01 ∷ 0x06 ∷ 0x2a ∷ 0xb6 ∷ 0x00 ∷ 0x01 ∷ 0x57 ∷ 0xb1
+    ∷ 23 ∷ (ascii "m:(Ljava/lang/String;)V"
+    ++ (1 ∷ 1 ∷ 1 ∷ 16 ∷ (ascii "java/lang/String" ++ (6 ∷ (ascii "length" ++ (3 ∷ (ascii "()I" ++ (0 ∷ []))))))))
 
 pub data Row : Type 0 where
   -- a code, an index of it, and what measuring there answers
@@ -26,24 +39,33 @@ pub data Row : Type 0 where
   -- a code, a fault, and what scanning answers
   leads : List ℕ → ℕ → Scan → Row
   -- a descriptor, and what its parameters are: read, and by name
-  takes : List ℕ → Params → List ℕ → Row
+  takes : List ℕ → Params → Row
+  names : List ℕ → List ℕ → Row
   -- a descriptor, and the slots of its return
   returns : List ℕ → Slots → Row
   -- a text, the room for numbers, and what the strict reader of a method, or of a type, answers in document 01's numbers
   methodReads : List ℕ → ℕ → List ℕ → Row
   typeReads : List ℕ → ℕ → List ℕ → Row
+  -- the bytes of a case, the room of the stack and of the output, and the report's answer in document 01's numbers
+  reports : List ℕ → ℕ → ℕ → List ℕ → Row
+  -- the bytes of a case, the room of the stack, and the message, in an output of its length
+  writes : List ℕ → ℕ → List ℕ → Row
 
 abbrev pub Holds : Row → Type 0
 Holds (measures code pc answer) = lengthOf code pc ≡ answer
 Holds (leads code fault answer) = blockLeader lengthOf [] code fault ≡ answer
-Holds (takes text read names) = (parameters text ≡ read) × (parameterNames text ≡ names)
+Holds (takes text read) = parameters text ≡ read
+Holds (names text named) = parameterNames text ≡ named
 Holds (returns text slots) = returnSlots text ≡ slots
 Holds (methodReads text room told) = numbered (answer (methodReading text) room) ≡ told
 Holds (typeReads text room told) = numbered (answer (typeReading text) room) ≡ told
+Holds (reports bytes room outRoom told) = reported (reportOf bytes room outRoom) ≡ told
+Holds (writes bytes room message) = reportedIn bytes room (replicate (length message) 0) ≡ message
 
-abbrev pub AllHold : List Row → Type 0
-AllHold [] = Unit
-AllHold (row ∷ rows) = Holds row × AllHold rows
+infixr 5 _&_
+pub data AllHold : List Row → Type 0 where
+  none : AllHold []
+  _&_ : {row : Row} {rows : List Row} → Holds row → AllHold rows → AllHold (row ∷ rows)
 
 unfoldable pub rows : List Row
 rows =
@@ -58,10 +80,13 @@ rows =
     -- "code 00 00 2a be 57 a7 ff fd, fault 3: leader 2, scan 6, kind 2. With ff fe: leader 3, kind 1."
     leads (0x00 ∷ 0x00 ∷ 0x2a ∷ 0xbe ∷ 0x57 ∷ 0xa7 ∷ 0xff ∷ 0xfd ∷ []) 3 (Leader 2 6) ∷
     leads (0x00 ∷ 0x00 ∷ 0x2a ∷ 0xbe ∷ 0x57 ∷ 0xa7 ∷ 0xff ∷ 0xfe ∷ []) 3 (Leader 3 6) ∷
+    reports (static 3 (0x00 ∷ 0x00 ∷ 0x2a ∷ 0xbe ∷ 0x57 ∷ 0xa7 ∷ 0xff ∷ 0xfd ∷ [])) 1 60 (0 ∷ 55 ∷ 2 ∷ 6 ∷ 1 ∷ []) ∷
+    reports (static 3 (0x00 ∷ 0x00 ∷ 0x2a ∷ 0xbe ∷ 0x57 ∷ 0xa7 ∷ 0xff ∷ 0xfe ∷ [])) 1 60 (0 ∷ 28 ∷ 1 ∷ 6 ∷ 0 ∷ []) ∷
     -- "code a7 ff ff b1, fault 3: leader 3."
     leads (0xa7 ∷ 0xff ∷ 0xff ∷ 0xb1 ∷ []) 3 (Leader 3 2) ∷
     -- "`(IJ[D)V`: int, long, double[], 4 slots, return 0. `(La)J;)V`: return 2."
-    takes (ascii "(IJ[D)V") (Read 4 5) (ascii "int, long, double[]") ∷
+    takes (ascii "(IJ[D)V") (Read 4 5) ∷
+    names (ascii "(IJ[D)V") (ascii "int, long, double[]") ∷
     returns (ascii "(IJ[D)V") (SlotsOf 0) ∷
     returns (ascii "(La)J;)V") (SlotsOf 2) ∷
     -- "strict `()` is 1, `())` is 12, 255 `[` then I passes, 256 is 2."
@@ -69,4 +94,7 @@ rows =
     methodReads (40 ∷ 41 ∷ 41 ∷ []) 4 (12 ∷ []) ∷
     typeReads (replicate 255 91 ++ (73 ∷ [])) 4 (0 ∷ 1 ∷ []) ∷
     typeReads (replicate 256 91 ++ (73 ∷ [])) 4 (2 ∷ []) ∷
+    -- the program's example: "0 2 4 1 Cannot invoke "String.length()" because "<parameter1>" is null"
+    reports example 4096 16384 (0 ∷ 62 ∷ 2 ∷ 4 ∷ 1 ∷ []) ∷
+    writes example 4096 (ascii "Cannot invoke \"String.length()\" because \"<parameter1>\" is null") ∷
     []

@@ -1,0 +1,153 @@
+-- No constant program meets the contract: a few small cases are computed.
+-- Assumes nothing.
+use Prim.Native.Nat.{ℕ, _^_, _<_}
+use native.Mathlib.Omega.{arith}
+use mathlib.Core.Path.{_≡_, refl, _∙_, sym, ap, subst}
+use mathlib.Core.Bool.{Bool, true, false}
+use mathlib.Core.List.{List, [], _∷_}
+use lib.Dec.{T, ltb, ltb→lt}
+use lib.ListN.{length, getD, List·getD-eq-default}
+use borrow.Author.Tests.{ltb-true, ltb-false}
+use Rattle.basics.specs.Ascii.{ascii}
+use Rattle.basics.proofs.Every.{every, every-at}
+use Rattle.jvms.specs.Format.{formatOf}
+use Rattle.bytecode.specs.Length.{bytesOf, fixedLength, within, lengthOf}
+use Rattle.leader.specs.Greatest.{upTo, greatest}
+use Rattle.leader.specs.Scan.{scanFrom, instructions, scanCount, leadersOf, answered, blockLeader}
+use Rattle.leader.specs.Targets.{kindOf, leadersAt}
+use Rattle.descriptor.specs.Search.{firstIn, firstFrom}
+use Rattle.text.specs.Decimal.{digits, decimal}
+use Rattle.text.specs.Writing.{over}
+use Rattle.casefile.specs.Layout.{membersThen, recordsThen, runBy}
+use Rattle.casefile.specs.LocalRecord.{recordsIn}
+use Rattle.casefile.specs.Number.{numberFrom, numberAt}
+use Rattle.casefile.specs.Parts.{partsOf}
+use Rattle.casefile.specs.Text.{textAt}
+use Rattle.casefile.specs.Whole.{tablesAt, placesIn, caseOf}
+use Rattle.effects.specs.Depth.{ruleOf, depthOf}
+use Rattle.effects.specs.Rows.{rowOf}
+use Rattle.block.specs.Room.{completedFrom, completed, blockWalk}
+use Rattle.block.specs.Walk.{step, walkFrom, walk}
+use Rattle.fault.specs.Decoding.{actionOf, decoded}
+use Rattle.locals.specs.Name.{firstMatch, signatureParameter, numberedName, localName}
+use Rattle.message.specs.Message.{actionText, causeText, messageText}
+use Rattle.report.specs.Report.{isInstance, messageOf, saidOf, reportOf, reportedIn, numbered}
+use Rattle.report.specs.Trace.{slotFrom, traced}
+use Rattle.report.specs.declared.Report.the-variants.{Message, Broken}
+use Rattle.evidence.specs.Constant.{reading, throwing, readingNull, blank, SmallCases, Lent, Always, Program, Meets, numberOf, NoConstant}
+
+pub small-cases : SmallCases
+unfolding reportOf reportedIn caseOf placesIn tablesAt textAt numberAt numberFrom runBy membersThen recordsThen partsOf
+    saidOf decoded depthOf ruleOf actionOf traced blockLeader instructions scanFrom scanCount leadersOf leadersAt kindOf
+    answered greatest upTo lengthOf within bytesOf formatOf blockWalk completed completedFrom walk walkFrom step
+    rowOf fixedLength slotFrom messageOf messageText actionText causeText localName recordsIn firstMatch
+    signatureParameter firstFrom firstIn numberedName decimal digits isInstance over
+small-cases =
+    record {
+      reads = refl;
+      readsText = refl;
+      throws = refl;
+      throwsText = refl;
+      readsNull = refl;
+      returns = refl;
+      broken = refl;
+      stackless = refl;
+      outless = refl;
+    }
+
+-- ---- what can be lent
+
+-- every number of a list is below a limit, as a computed test finds
+pub all-below :
+    (limit : ℕ) (xs : List ℕ) → T (ltb 0 limit) → T (every (λ i. ltb (getD xs i 0) limit) (length xs)) →
+    (i : ℕ) → getD xs i 0 < limit
+all-below limit xs some t i = by-place (ltb i (length xs)) refl
+  where
+    by-place : (b : Bool) → ltb i (length xs) ≡ b → getD xs i 0 < limit
+    by-place true e =
+        ltb→lt (getD xs i 0) limit
+        (every-at (λ k. ltb (getD xs k 0) limit) (length xs) t i (ltb-true i (length xs) e))
+    by-place false e =
+        subst (λ (x : ℕ). x < limit) (sym (List·getD-eq-default xs 0 (ltb-false i (length xs) e))) (ltb→lt 0 limit some)
+
+-- a stack of one cell
+abbrev cell : List ℕ
+cell = 1 ∷ []
+
+lent : (bytes : List ℕ) → T (every (λ i. ltb (getD bytes i 0) 256) (length bytes)) → Lent bytes cell blank
+lent bytes t =
+    record { case = all-below 256 bytes tt t; cells = all-below (2 ^ 64) cell tt tt; output = all-below 256 blank tt tt }
+
+-- ---- programs
+
+module _ (program : Program) (meets : Meets program) where
+  reads : program .answer reading cell blank ≡ Message 55 2 2 1
+  reads = meets .answers reading cell blank (lent reading tt) ∙ small-cases .reads
+
+  reads-text :
+      program .output reading cell blank ≡ over (ascii "Cannot read the array length because \"<local0>\" is null") blank
+  reads-text = meets .leaves reading cell blank (lent reading tt) ∙ small-cases .readsText
+
+  one-number : (n : ℕ) → Always (λ bytes stack out. numberOf (program .answer bytes stack out) ≡ n) → ⊥
+  unfolding numbered
+  one-number n same =
+      let message : 0 ≡ n = sym (ap numberOf reads) ∙ same reading cell blank (lent reading tt) in
+      let broken : program .answer [] cell blank ≡ Broken 0 =
+      meets .answers [] cell blank (lent [] tt) ∙ small-cases .broken in
+      let wrong : 2 ≡ n = sym (ap numberOf broken) ∙ same [] cell blank (lent [] tt) in
+      absurd (omega arith)
+
+  one-kind :
+      (k : ℕ) →
+      Always (λ bytes stack out. (size kind scan block : ℕ) →
+      program .answer bytes stack out ≡ Message size kind scan block → kind ≡ k) →
+      ⊥
+  one-kind k same =
+      let two : 2 ≡ k = same reading cell blank (lent reading tt) 55 2 2 1 reads in
+      let one : 1 ≡ k =
+      same readingNull cell blank (lent readingNull tt) 28 1 2 1
+      (meets .answers readingNull cell blank (lent readingNull tt) ∙ small-cases .readsNull) in
+      absurd (omega arith)
+
+  one-text :
+      (text : List ℕ) →
+      Always (λ bytes stack out. (size kind scan block : ℕ) →
+      program .answer bytes stack out ≡ Message size kind scan block → program .output bytes stack out ≡ over text out) →
+      ⊥
+  unfolding over
+  one-text text same =
+      let first = sym (same reading cell blank (lent reading tt) 55 2 2 1 reads) ∙ reads-text in
+      let throws : program .answer throwing cell blank ≡ Message 49 2 2 1 =
+      meets .answers throwing cell blank (lent throwing tt) ∙ small-cases .throws in
+      let second =
+      sym (same throwing cell blank (lent throwing tt) 49 2 2 1 throws)
+      ∙ meets .leaves throwing cell blank (lent throwing tt) ∙ small-cases .throwsText in
+      -- "Cannot r", "Cannot t"
+      let z : _≡_ {A = ℕ} 114 116 = ap (λ (l : List ℕ). getD l 7 0) (sym first ∙ second) in
+      absurd (omega arith)
+
+  same-output : Always (λ bytes stack out. program .output bytes stack out ≡ out) → ⊥
+  unfolding over
+  same-output same =
+      let z : _≡_ {A = ℕ} 0 67 =
+      ap (λ (l : List ℕ). getD l 0 0) (sym (same reading cell blank (lent reading tt)) ∙ reads-text) in
+      absurd (omega arith)
+
+  same-stack : Always (λ bytes stack out. program .stack bytes stack out ≡ stack) → ⊥
+  same-stack same =
+      let z : _≡_ {A = ℕ} 1 0 =
+      ap (λ (l : List ℕ). getD l 0 0)
+      (sym (same [] cell blank (lent [] tt)) ∙ meets .clears [] cell blank (lent [] tt)) in
+      absurd (omega arith)
+
+pub no-constant : NoConstant
+no-constant program meets =
+    record {
+      number = one-number program meets;
+      answer = λ r same.
+          one-number program meets (numberOf r) (λ bytes stack out l. ap numberOf (same bytes stack out l));
+      kind = one-kind program meets;
+      text = one-text program meets;
+      output = same-output program meets;
+      stack = same-stack program meets;
+    }

@@ -1,0 +1,151 @@
+-- The kind of a message is 2 exactly where a cause is given, and else 1.
+-- Assumes nothing.
+use Prim.Native.Nat.{ℕ, _-_}
+use native.Mathlib.Omega.{arith}
+use mathlib.Core.Path.{_≡_, refl, _∙_, sym, ap}
+use mathlib.Core.Bool.{Bool, true, false}
+use mathlib.Core.List.{List, [], append-nil}
+use mathlib.Core.Logic.{_⊎_, inl, inr}
+use lib.Dec.{ltb}
+use lib.ListN.{length, getD}
+use borrow.Author.Tests.{ltb-true, lt-ltb}
+use Rattle.basics.specs.Choice.{pick}
+use Rattle.bytecode.specs.Length.{lengthOf}
+use Rattle.leader.specs.Scan.{blockLeader}
+use Rattle.leader.specs.declared.Scan.{Scan}
+use Rattle.leader.specs.declared.Scan.the-variants.{Leader, Unmeasured}
+use Rattle.casefile.specs.Parts.{Parts}
+use Rattle.block.specs.Cells.{unpacked}
+use Rattle.block.specs.Room.{Roomed, lacks, fits, blockWalk}
+use Rattle.block.specs.Walk.{done, failed}
+use Rattle.block.specs.declared.Slot.{Slot}
+use Rattle.block.specs.declared.Slot.the-variants.{Other, Loaded}
+use Rattle.fault.specs.Decoding.{decoded}
+use Rattle.fault.specs.declared.Action.{Action}
+use Rattle.fault.specs.declared.Fault.{Fault}
+use Rattle.fault.specs.declared.Fault.the-variants.{Failed, Nothing}
+use Rattle.message.specs.Message.{actionText, causeText, messageText}
+use Rattle.report.specs.Report.{kindOf, messageOf, Said, said, saidBy, saidAt, saidOf}
+use Rattle.report.specs.Trace.{slotFrom, traceOf, tracedBy, traced}
+use Rattle.report.specs.declared.Trace.{Trace}
+use Rattle.report.specs.declared.Trace.the-variants.{NoRoom, Traced}
+use Rattle.evidence.specs.Kind.{Caused, KindTwo, ActionAlone, OneOrTwo}
+
+-- ---- kind 2 has a cause: what is said is taken apart, from the fault to the slot
+
+module _ (p : Parts) (room : ℕ) (message : List ℕ) (scan block : ℕ) where
+  abbrev Two : Said → Type 0
+  Two told = told ≡ said message 2 scan block
+
+  module _ (action : Action) (depth : ℕ)
+      (decodes : decoded (p .code) (p .members) (p .memberCount) (p .fault) ≡ Failed action depth) where
+    module _ (leader scanned : ℕ) (leads : blockLeader lengthOf [] (p .code) (p .fault) ≡ Leader leader scanned) where
+      module _ (slots : List ℕ) (count : ℕ)
+          (walks : blockWalk (p .code) (p .members) (p .memberCount) leader (p .fault) room ≡ fits (done slots count)) where
+        abbrev found : Slot
+        found = unpacked (getD slots (length slots - 1 - depth) 0)
+
+        by-slot :
+            (slot : Slot) → found ≡ slot → ltb depth (length slots) ≡ true →
+            Two (said (messageOf p action slot) (kindOf slot) scanned count) → Caused p room message scan block
+        by-slot Other e high told = let z : _≡_ {A = ℕ} 1 2 = cc in absurd (omega arith)
+        by-slot (Loaded load local) e high told =
+            let words : messageOf p action (Loaded load local) ≡ message = cc in
+            let scans : scanned ≡ scan = cc in
+            let counts : count ≡ block = cc in
+            record {
+              action = action;
+              depth = depth;
+              leader = leader;
+              slots = slots;
+              load = load;
+              local = local;
+              decodes = decodes;
+              leads = leads ∙ ap (Leader leader) scans;
+              walks = walks ∙ ap (λ (n : ℕ). fits (done slots n)) counts;
+              high = omega (arith, ltb-true depth (length slots) high);
+              slot = e;
+              words = sym words;
+            }
+
+        by-height :
+            (b : Bool) → ltb depth (length slots) ≡ b →
+            Two (said (messageOf p action (pick b found Other)) (kindOf (pick b found Other)) scanned count) →
+            Caused p room message scan block
+        by-height true e told = by-slot found refl e told
+        by-height false e told = let z : _≡_ {A = ℕ} 1 2 = cc in absurd (omega arith)
+
+      by-walk :
+          (walked : Roomed ℕ) → blockWalk (p .code) (p .members) (p .memberCount) leader (p .fault) room ≡ walked →
+          Two (saidBy p action (traceOf scanned depth walked)) → Caused p room message scan block
+      unfolding slotFrom
+      by-walk (lacks index) e told = let z : _≡_ {A = ℕ} 0 1 = cc in absurd (omega arith)
+      by-walk (fits (failed count reason)) e told = let z : _≡_ {A = ℕ} 1 2 = cc in absurd (omega arith)
+      by-walk (fits (done slots count)) e told = by-height slots count e (ltb depth (length slots)) refl told
+
+    by-scan :
+        (x : Scan) → blockLeader lengthOf [] (p .code) (p .fault) ≡ x →
+        Two (saidBy p action (tracedBy (p .code) (p .members) (p .memberCount) (p .fault) depth room x)) →
+        Caused p room message scan block
+    by-scan (Leader leader scanned) e told =
+        by-walk leader scanned e (blockWalk (p .code) (p .members) (p .memberCount) leader (p .fault) room) refl told
+    by-scan (Unmeasured at scanned) e told = let z : _≡_ {A = ℕ} 1 2 = cc in absurd (omega arith)
+
+  by-fault :
+      (fault : Fault) → decoded (p .code) (p .members) (p .memberCount) (p .fault) ≡ fault → Two (saidAt p room fault) →
+      Caused p room message scan block
+  unfolding traced
+  by-fault Nothing e told = let z : _≡_ {A = ℕ} 0 1 = cc in absurd (omega arith)
+  by-fault (Failed action depth) e told = by-scan action depth e (blockLeader lengthOf [] (p .code) (p .fault)) refl told
+
+  has-cause : Two (saidOf p room) → Caused p room message scan block
+  unfolding saidOf
+  has-cause told = by-fault (decoded (p .code) (p .members) (p .memberCount) (p .fault)) refl told
+
+  -- ---- a cause makes kind 2
+
+  is-two : Caused p room message scan block → Two (saidOf p room)
+  unfolding saidOf traced slotFrom
+  is-two c =
+      rw (c .decodes, c .leads, c .walks, lt-ltb (c .depth) (length (c .slots)) (omega (arith, c .high)), c .slot)
+      (ap (λ (text : List ℕ). said text 2 scan block) (sym (c .words)))
+
+pub kind-two : KindTwo
+kind-two = record { only = has-cause; always = is-two }
+
+-- ---- no other kind
+
+module _ (p : Parts) (room : ℕ) (message : List ℕ) (kind scan block : ℕ) where
+  abbrev Kinds : Type 0
+  Kinds = ((kind ≡ 1) × ActionAlone p message) ⊎ (kind ≡ 2)
+
+  module _ (action : Action) (depth : ℕ)
+      (decodes : decoded (p .code) (p .members) (p .memberCount) (p .fault) ≡ Failed action depth) where
+    plain : messageOf p action Other ≡ actionText (p .members) (p .memberCount) action
+    unfolding messageOf messageText causeText
+    plain = append-nil (actionText (p .members) (p .memberCount) action)
+
+    by-cause :
+        (cause : Slot) (scanned count : ℕ) →
+        said (messageOf p action cause) (kindOf cause) scanned count ≡ said message kind scan block → Kinds
+    by-cause Other scanned count told =
+        let one : kind ≡ 1 = cc in
+        let same : message ≡ messageOf p action Other = cc in
+        inl (one, record { action = action; depth = depth; decodes = decodes; words = same ∙ plain })
+    by-cause (Loaded load local) scanned count told = inr cc
+
+    by-trace : (trace : Trace) → saidBy p action trace ≡ said message kind scan block → Kinds
+    by-trace (NoRoom index) told = let z : _≡_ {A = ℕ} 0 1 = cc in absurd (omega arith)
+    by-trace (Traced scanned count cause) told = by-cause cause scanned count told
+
+  by-decoding :
+      (fault : Fault) → decoded (p .code) (p .members) (p .memberCount) (p .fault) ≡ fault →
+      saidAt p room fault ≡ said message kind scan block → Kinds
+  by-decoding Nothing e told = let z : _≡_ {A = ℕ} 0 1 = cc in absurd (omega arith)
+  by-decoding (Failed action depth) e told =
+      by-trace action depth e (traced (p .code) (p .members) (p .memberCount) (p .fault) depth room) told
+
+pub one-or-two : OneOrTwo
+unfolding saidOf
+one-or-two p room message kind scan block told =
+    by-decoding p room message kind scan block (decoded (p .code) (p .members) (p .memberCount) (p .fault)) refl told

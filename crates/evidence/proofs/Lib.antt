@@ -1,0 +1,4 @@
+pub mod Constant
+pub mod Evidence
+pub mod Example
+pub mod Kind

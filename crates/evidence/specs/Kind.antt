@@ -1,0 +1,62 @@
+-- The kind of a message (document 01, "Numbers returned": "1 action, 2 action and cause"), and exactly when it is 2.
+-- Assumes nothing.
+use Prim.Native.Nat.{ℕ, _-_, _<_}
+use mathlib.Core.Path.{_≡_}
+use mathlib.Core.List.{List, []}
+use mathlib.Core.Logic.{_⊎_}
+use lib.ListN.{length, getD}
+use Rattle.bytecode.specs.Length.{lengthOf}
+use Rattle.leader.specs.Scan.{blockLeader}
+use Rattle.leader.specs.declared.Scan.the-variants.{Leader}
+use Rattle.casefile.specs.Parts.{Parts}
+use Rattle.block.specs.Cells.{unpacked}
+use Rattle.block.specs.Room.{fits, blockWalk}
+use Rattle.block.specs.Walk.{done}
+use Rattle.block.specs.declared.Slot.the-variants.{Loaded}
+use Rattle.fault.specs.Decoding.{decoded}
+use Rattle.fault.specs.declared.Action.{Action}
+use Rattle.fault.specs.declared.Fault.the-variants.{Failed}
+use Rattle.message.specs.Message.{actionText}
+use Rattle.report.specs.Report.{messageOf, said, saidOf}
+
+-- "A cause is given exactly when the walk succeeds, its height exceeds the depth, and the slot at that depth from the top is
+-- a load".
+pub record Caused (p : Parts) (room : ℕ) (message : List ℕ) (scan block : ℕ) : Type 0 where
+  pub action : Action
+  pub depth : ℕ
+  pub leader : ℕ
+  pub slots : List ℕ
+  pub load : ℕ
+  pub local : ℕ
+  -- the fault's action, and how deep the reference lies
+  pub decodes : decoded (p .code) (p .members) (p .memberCount) (p .fault) ≡ Failed action depth
+  pub leads : blockLeader lengthOf [] (p .code) (p .fault) ≡ Leader leader scan
+  -- "the walk succeeds"
+  pub walks : blockWalk (p .code) (p .members) (p .memberCount) leader (p .fault) room ≡ fits (done slots block)
+  -- "its height exceeds the depth"
+  pub high : depth < length slots
+  -- "the slot at that depth from the top is a load"
+  pub slot : unpacked (getD slots (length slots - 1 - depth) 0) ≡ Loaded load local
+  pub words : message ≡ messageOf p action (Loaded load local)
+
+-- in both directions, for the parts of any case and any room
+pub record KindTwo : Type 0 where
+  pub only :
+      (p : Parts) (room : ℕ) (message : List ℕ) (scan block : ℕ) → saidOf p room ≡ said message 2 scan block →
+      Caused p room message scan block
+  pub always :
+      (p : Parts) (room : ℕ) (message : List ℕ) (scan block : ℕ) → Caused p room message scan block →
+      saidOf p room ≡ said message 2 scan block
+
+-- the message is the fault's action, and nothing more
+pub record ActionAlone (p : Parts) (message : List ℕ) : Type 0 where
+  pub action : Action
+  pub depth : ℕ
+  pub decodes : decoded (p .code) (p .members) (p .memberCount) (p .fault) ≡ Failed action depth
+  pub words : message ≡ actionText (p .members) (p .memberCount) action
+
+-- every message is of kind 1, with the action alone, or of kind 2
+abbrev pub OneOrTwo : Type 0
+OneOrTwo =
+    (p : Parts) (room : ℕ) (message : List ℕ) (kind scan block : ℕ) → saidOf p room ≡ said message kind scan block →
+    ((kind ≡ 1) × ActionAlone p message) ⊎ (kind ≡ 2)
