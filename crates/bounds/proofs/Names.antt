@@ -3,10 +3,9 @@
 use Prim.Native.Nat.{ℕ, zero, suc, _+_, _*_, _-_, _≤_}
 use native.Mathlib.Nat.{suc-mul}
 use native.Mathlib.Omega.{arith}
-use mathlib.Core.Path.{_≡_}
 use mathlib.Core.Bool.{Bool, true, false}
 use mathlib.Core.List.{List, [], _∷_, _++_}
-use lib.Dec.{eqb, lit≤}
+use lib.Dec.{eqb}
 use lib.ListN.{length, take, drop, length-append}
 use Rattle.basics.specs.Ascii.{ascii}
 use Rattle.basics.specs.Choice.{pick, sameList}
@@ -21,7 +20,7 @@ use Rattle.descriptor.specs.declared.Taken.the-variants.{Field, Unreadable}
 use Rattle.descriptor.proofs.Bounds.{taken-inside}
 use Rattle.names.specs.Names.{dotted, startsWith, className, baseNames, nameAt, baseName, elementName, bracketPairs, typeName, typeNames, commaed, joined, parameterNames}
 use Rattle.names.proofs.Bytewise.{dotted-length, pairs-length}
-use Rattle.bounds.proofs.Texts.{Within, none-within, part-within}
+use Rattle.bounds.proofs.Texts.{Within, none-within, entry-within, part-within}
 
 -- ---- one name
 
@@ -41,16 +40,8 @@ unfolding baseName baseNames
 base-within letter = of (firstFrom letter (ascii "BCDFIJSZ") 0)
   where
     of : (found : Found) → Within 7 (nameAt found)
-    of (At zero) = lit≤ tt
-    of (At (suc zero)) = lit≤ tt
-    of (At (suc (suc zero))) = lit≤ tt
-    of (At (suc (suc (suc zero)))) = lit≤ tt
-    of (At (suc (suc (suc (suc zero))))) = lit≤ tt
-    of (At (suc (suc (suc (suc (suc zero)))))) = lit≤ tt
-    of (At (suc (suc (suc (suc (suc (suc zero))))))) = lit≤ tt
-    of (At (suc (suc (suc (suc (suc (suc (suc zero)))))))) = lit≤ tt
-    of (At (suc (suc (suc (suc (suc (suc (suc (suc k))))))))) = lit≤ tt
-    of Absent = lit≤ tt
+    of (At k) = entry-within 7 baseNames [] tt (none-within 7) k
+    of Absent = none-within 7
 
 element-within : (text : List ℕ) (t : FieldType) → Within (length text + 7) (elementName text t)
 unfolding elementName
@@ -73,7 +64,8 @@ widest text = 3 * length text + 20
 list-within : (text : List ℕ) (k at : ℕ) → Within (k * widest text) (commaed (typeNames text (typesFrom text k at)))
 unfolding typesFrom typeNames commaed
 list-within text zero at = none-within (0 * widest text)
-list-within text (suc k) at = of (listOver text at) (fieldTypeAt text at) (taken-inside text at) (λ next. list-within text k next)
+list-within text (suc k) at =
+    of (listOver text at) (fieldTypeAt text at) (taken-inside text at) (λ next. list-within text k next)
   where
     of :
         (b : Bool) (taken : Taken) → takenInside taken text at →
@@ -83,7 +75,14 @@ list-within text (suc k) at = of (listOver text at) (fieldTypeAt text at) (taken
     of false (Field t) inside rest =
         let behind = commaed (typeNames text (typesFrom text k (t .next))) in
         let one : length (typeName text t ++ behind) ≤ k * widest text + 3 * length text + 7 =
-        omega (arith, length-append (typeName text t) behind, type-within text t, inside .onward, inside .within, rest (t .next)) in
+        omega (
+          arith,
+          length-append (typeName text t) behind,
+          type-within text t,
+          inside .onward,
+          inside .within,
+          rest (t .next),
+        ) in
         omega (arith, length-append (ascii ", ") (typeName text t ++ behind), one, suc-mul k (widest text))
     of false Unreadable inside rest = none-within (suc k * widest text)
 
@@ -95,4 +94,5 @@ joined-within (name ∷ names) n short = omega (arith, length-append (ascii ", "
 pub parameters-within : (text : List ℕ) → Within (length text * widest text) (parameterNames text)
 unfolding parameterNames typesOf typesAt
 parameters-within text =
-    joined-within (typeNames text (typesFrom text (length text) 1)) (length text * widest text) (list-within text (length text) 1)
+    let size = length text in
+    joined-within (typeNames text (typesFrom text size 1)) (size * widest text) (list-within text size 1)

@@ -2,14 +2,14 @@
 -- Assumes nothing.
 use Prim.Native.Nat.{ℕ, zero, suc, _+_, _-_, _/_, _%_, _≤_}
 use native.Mathlib.Omega.{arith}
-use mathlib.Core.Path.{_≡_}
-use mathlib.Core.Bool.{Bool}
+use mathlib.Core.Bool.{Bool, true}
 use mathlib.Core.List.{List, [], _∷_, _++_}
-use lib.Dec.{eqb, ltb, lit≤}
-use lib.ListN.{length, take, drop, length-append, length-take, length-drop}
+use lib.Dec.{T, eqb, leb, ltb, lit≤}
+use lib.ListN.{length, take, drop, getD, length-append, length-take, length-drop}
 use Rattle.basics.specs.Ascii.{ascii}
 use Rattle.basics.specs.Choice.{pick, both}
 use Rattle.basics.proofs.Choice.{chosen}
+use Rattle.basics.proofs.Every.{both-first, both-second}
 use Rattle.casefile.specs.LocalRecord.{recordsIn}
 use Rattle.casefile.specs.Member.{memberAt, thenMember, textsOf, memberFound}
 use Rattle.casefile.specs.Text.{textAt, thenText, textPart}
@@ -19,7 +19,7 @@ use Rattle.casefile.specs.declared.Text.{Text}
 use Rattle.casefile.specs.declared.Text.the-variants.{Place, NotText}
 use Rattle.descriptor.specs.declared.Found.{Found}
 use Rattle.descriptor.specs.declared.Found.the-variants.{At, Absent}
-use Rattle.locals.specs.Name.{firstMatch, signatureParameter, numberedName, parameterName, nameBy, localName}
+use Rattle.locals.specs.Name.{firstMatch, signatureParameter, numberedName, parameterName, unnamed, nameBy, localName}
 use Rattle.locals.specs.declared.NamePlace.{NamePlace}
 use Rattle.locals.specs.declared.NamePlace.the-variants.{Name, Unnamed}
 use Rattle.text.specs.Decimal.{digits, decimal}
@@ -30,6 +30,19 @@ Within n l = length l ≤ n
 
 pub none-within : (n : ℕ) → Within n []
 none-within n = omega arith
+
+-- each text of a list is at most so long
+abbrev allWithin : ℕ → List (List ℕ) → Bool
+allWithin n [] = true
+allWithin n (l ∷ ls) = both (leb (length l) n) (allWithin n ls)
+
+pub entry-within :
+    (n : ℕ) (ls : List (List ℕ)) (other : List ℕ) → T (allWithin n ls) → Within n other → (k : ℕ) →
+    Within n (getD ls k other)
+entry-within n [] other all is k = is
+entry-within n (l ∷ ls) other all is zero = lit≤ (both-first (leb (length l) n) (allWithin n ls) all)
+entry-within n (l ∷ ls) other all is (suc k) =
+    entry-within n ls other (both-second (leb (length l) n) (allWithin n ls) all) is k
 
 -- ---- parts of a run
 
@@ -44,7 +57,8 @@ text-within bytes at = of (textAt bytes at)
     of (Place start size) = part-within size start bytes
     of NotText = none-within (length bytes)
 
-pub found-within : (bytes : List ℕ) (index kind count last at : ℕ) → Within (length bytes) (memberFound bytes index kind count last at)
+pub found-within :
+    (bytes : List ℕ) (index kind count last at : ℕ) → Within (length bytes) (memberFound bytes index kind count last at)
 unfolding memberFound
 found-within bytes index kind zero last at = none-within (length bytes)
 found-within bytes index kind (suc count) last at =
@@ -59,7 +73,8 @@ found-within bytes index kind (suc count) last at =
         (memberFound bytes index kind count (place .index) (place .next))))
     of (Read place) rest =
         chosen (Within (length bytes)) (eqb (place .index) index)
-        (pick (eqb (place .kind) kind) (textsOf bytes place) []) (memberFound bytes index kind count (place .index) (place .next))
+        (pick (eqb (place .kind) kind) (textsOf bytes place) [])
+        (memberFound bytes index kind count (place .index) (place .next))
         (chosen (Within (length bytes)) (eqb (place .kind) kind) (textsOf bytes place) []
         (part-within (place .next - place .texts) (place .texts) bytes) (none-within (length bytes)))
         (rest (place .index) (place .next))
@@ -80,7 +95,8 @@ digits-within (suc k) n =
 numbered-within : (word : List ℕ) (n : ℕ) → Within 11 word → Within 40 (numberedName word n)
 unfolding numberedName decimal
 numbered-within word n short =
-    omega (arith, short, length-append (word ++ digits 20 n) (ascii ">"), length-append word (digits 20 n), digits-within 20 n)
+    let number = digits 20 n in
+    omega (arith, short, length-append (word ++ number) (ascii ">"), length-append word number, digits-within 20 n)
 
 parameter-within : (found : Found) (slot : ℕ) → Within 40 (parameterName found slot)
 parameter-within (At k) slot = numbered-within (ascii "<parameter") k (lit≤ tt)
@@ -92,10 +108,11 @@ pub local-within :
 unfolding localName
 local-within records count signature instance slot load = of (firstMatch (recordsIn records count 0) slot load)
   where
-    without : Within 40 (pick (both instance (eqb slot 0)) (ascii "this") (parameterName (signatureParameter signature instance slot) slot))
+    without : Within 40 (unnamed signature instance slot)
     without =
-        chosen (Within 40) (both instance (eqb slot 0)) (ascii "this") (parameterName (signatureParameter signature instance slot) slot)
-        (lit≤ tt) (parameter-within (signatureParameter signature instance slot) slot)
+        let found = signatureParameter signature instance slot in
+        chosen (Within 40) (both instance (eqb slot 0)) (ascii "this") (parameterName found slot) (lit≤ tt)
+        (parameter-within found slot)
 
     of : (place : NamePlace) → Within (length records + 40) (nameBy place records signature instance slot)
     of (Name from to) = omega (arith, part-within (to - from) from records)
