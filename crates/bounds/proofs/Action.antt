@@ -23,7 +23,7 @@ use Rattle.bounds.proofs.Texts.{Within, none-within, entry-within, text
 
 -- ---- the action
 
--- more than the names of all parameters take
+-- the names of all parameters take no more
 abbrev pub much : ℕ
 much = longest * (3 * longest + 20)
 
