@@ -1,0 +1,131 @@
+-- How long the action and the cause of a message are, where the members and the records are no longer than a case can be.
+-- Assumes nothing.
+use Prim.Native.Nat.{ℕ, _+_, _*_, _≤_}
+use native.Mathlib.Nat.{mul-le-mul}
+use native.Mathlib.Omega.{arith}
+use mathlib.Core.Bool.{Bool}
+use mathlib.Core.List.{List, [], _∷_, _++_}
+use lib.Dec.{lit≤}
+use lib.ListN.{length, length-append}
+use Rattle.basics.specs.Ascii.{ascii}
+use Rattle.casefile.specs.Member.{memberFound}
+use Rattle.casefile.specs.Text.{afterText, classOf, nameOf, descriptorOf}
+use Rattle.casefile.specs.Whole.{longest}
+use Rattle.names.specs.Names.{className, parameterNames}
+use Rattle.locals.specs.Name.{localName}
+use Rattle.block.specs.declared.Slot.{Slot}
+use Rattle.block.specs.declared.Slot.the-variants.{Other, Loaded}
+use Rattle.fault.specs.declared.Action.{Action}
+use Rattle.fault.specs.declared.Action.the-variants.{ReadField, AssignField, Invoke, LoadArray, StoreArray, ReadLength, ThrowException, EnterBlock, ExitBlock}
+use Rattle.message.specs.Message.{elementText, quoted, methodText, invokeText, arrayText, actionText, causeText}
+use Rattle.bounds.proofs.Names.{widest, class-within, parameters-within}
+use Rattle.bounds.proofs.Texts.{Within, none-within, entry-within, text-within, found-within, local-within}
+
+-- ---- the action
+
+-- the names of all parameters take no more
+abbrev pub much : ℕ
+much = longest * (3 * longest + 20)
+
+quoted-within : (words name : List ℕ) → Within 20 words → Within (length name + 22) (quoted words name)
+unfolding quoted
+quoted-within words name short =
+    let mark = ascii "\"" in
+    let opened = words ++ mark in
+    omega (arith, short, length-append (opened ++ name) mark, length-append opened name, length-append words mark)
+
+element-within : (element : ℕ) → Within 6 (elementText element)
+unfolding elementText
+element-within element =
+    entry-within 6
+    (ascii "int" ∷ ascii "long" ∷ ascii "float" ∷ ascii "double" ∷ ascii "object" ∷ ascii "byte" ∷ ascii "char" ∷ [])
+    (ascii "short") tt (lit≤ tt) element
+
+array-within : (words : List ℕ) (element : ℕ) → Within 20 words → Within 32 (arrayText words element)
+unfolding arrayText
+array-within words element short =
+    let name = elementText element in
+    omega (arith, short, element-within element, length-append (words ++ name) (ascii " array"), length-append words name)
+
+invoke-within : (texts : List ℕ) → Within longest texts → Within (much + 2 * longest + 30) (invokeText texts)
+unfolding invokeText methodText classOf nameOf descriptorOf
+invoke-within texts short =
+    let class = classOf texts in
+    let name = nameOf texts in
+    let descriptor = descriptorOf texts in
+    let start = ascii "Cannot invoke \"" in
+    let method = methodText texts in
+    let parameters = parameterNames descriptor in
+    let described : length descriptor ≤ longest =
+    omega (arith, short, text-within texts (afterText texts (afterText texts 0))) in
+    let wide : widest descriptor ≤ 3 * longest + 20 = omega (arith, described) in
+    let listed : length descriptor * widest descriptor ≤ much = mul-le-mul described wide in
+    let all : length parameters ≤ much = omega (arith, listed, parameters-within descriptor) in
+    let called : length method ≤ 2 * longest + 7 =
+    omega (
+      arith,
+      short,
+      length-append (className class ++ ascii ".") name,
+      length-append (className class) (ascii "."),
+      class-within class,
+      text-within texts 0,
+      text-within texts (afterText texts 0),
+    ) in
+    omega (
+      arith,
+      all,
+      called,
+      length-append (start ++ method ++ ascii "(" ++ parameters) (ascii ")\""),
+      length-append (start ++ method ++ ascii "(") parameters,
+      length-append (start ++ method) (ascii "("),
+      length-append start method,
+    )
+
+field-within :
+    (members : List ℕ) (count index : ℕ) (words : List ℕ) → Within 20 words → Within longest members →
+    Within (much + 2 * longest + 30) (quoted words (nameOf (memberFound members index 0 count 0 0)))
+unfolding nameOf
+field-within members count index words brief short =
+    let texts = memberFound members index 0 count 0 0 in
+    omega (
+      arith,
+      short,
+      quoted-within words (nameOf texts) brief,
+      text-within texts (afterText texts 0),
+      found-within members index 0 count 0 0,
+    )
+
+pub action-within :
+    (members : List ℕ) (count : ℕ) (action : Action) → Within longest members →
+    Within (much + 2 * longest + 30) (actionText members count action)
+unfolding actionText
+action-within members count (ReadField index) short =
+    field-within members count index (ascii "Cannot read field ") (lit≤ tt) short
+action-within members count (AssignField index) short =
+    field-within members count index (ascii "Cannot assign field ") (lit≤ tt) short
+action-within members count (Invoke index) short =
+    invoke-within (memberFound members index 1 count 0 0) (omega (arith, short, found-within members index 1 count 0 0))
+action-within members count (LoadArray element) short =
+    omega (arith, array-within (ascii "Cannot load from ") element (lit≤ tt))
+action-within members count (StoreArray element) short =
+    omega (arith, array-within (ascii "Cannot store to ") element (lit≤ tt))
+action-within members count ReadLength short = lit≤ tt
+action-within members count ThrowException short = lit≤ tt
+action-within members count EnterBlock short = lit≤ tt
+action-within members count ExitBlock short = lit≤ tt
+
+-- ---- the cause
+
+pub cause-within :
+    (cause : Slot) (records : List ℕ) (count : ℕ) (signature : List ℕ) (instance : Bool) →
+    Within (length records + 70) (causeText cause records count signature instance)
+unfolding causeText
+cause-within Other records count signature instance = none-within (length records + 70)
+cause-within (Loaded load local) records count signature instance =
+    let name = localName records count signature instance local load in
+    omega (
+      arith,
+      length-append (ascii " because \"" ++ name) (ascii "\" is null"),
+      length-append (ascii " because \"") name,
+      local-within records count signature instance local load,
+    )

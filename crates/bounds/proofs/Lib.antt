@@ -1,0 +1,4 @@
+pub mod Action
+pub mod Message
+pub mod Names
+pub mod Texts
