@@ -1,0 +1,118 @@
+/* Korsepal: the null-report module, as a static library (libffi.a, x86-64).
+ *
+ * Every function takes any input, ends, and touches nothing but the memory that it is lent. A slice is two arguments, a
+ * pointer and a count; a count of 0 goes with any pointer that is not null. Nothing is allocated and nothing is kept.
+ * "Document 01" is the customer's requirements; the numbers are those of its "Numbers returned". A number that is not named
+ * for an answer is 0. */
+#ifndef KORSEPAL_H
+#define KORSEPAL_H
+
+#include <stddef.h>
+#include <stdint.h>
+
+#ifdef __cplusplus
+extern "C" {
+#endif
+
+/* The report of a case.
+ * answer 0: a message stands at the start of the output, the rest of which is unchanged; value is its length; kind is 1
+ *           (action) or 2 (action and cause); scan counts the instructions of the code, block those that the walk completed
+ * answer 1: there is no message
+ * answer 2: the case breaks its layout; value is the offset of its first wrong item
+ * answer 3: the stack lacks room; value is the index of the instruction after which its height exceeds it
+ * answer 4: the output lacks room; value is the length needed
+ * answer 5: the case has more than 1,048,576 bytes
+ * On 1 to 5 the output is unchanged. The stack is all zero after every answer. */
+typedef struct {
+    uint32_t answer;
+    uint32_t kind;
+    uint32_t scan;
+    uint32_t block;
+    uint64_t value;
+} korsepal_report_result;
+
+korsepal_report_result korsepal_report(const uint8_t *bytes, size_t bytes_count, uint64_t *stack, size_t stack_count,
+                                       uint8_t *output, size_t output_count);
+
+/* The length of the instruction at an index: status 0 and the length, or 1 where it has none. */
+typedef struct {
+    uint32_t status;
+    uint64_t length;
+} korsepal_length_result;
+
+korsepal_length_result korsepal_instruction_length(const uint8_t *code, size_t code_count, uint64_t pc);
+
+/* The greatest leader at or below a fault: found 1 and the leader, or 0 where some instruction has no length. scan counts the
+ * instructions that were measured. */
+typedef struct {
+    uint32_t found;
+    uint64_t scan;
+    uint64_t leader;
+} korsepal_leader_result;
+
+korsepal_leader_result korsepal_block_leader(const uint8_t *code, size_t code_count, uint64_t fault);
+
+/* The walk of a block, in the code of a case and with its members.
+ * outcome 0: done; the first height cells are the slots, bottom first, the others zero; count instructions were completed
+ * outcome 1: failed after count instructions
+ * outcome 2: the case breaks its layout at index; 5: it is too long
+ * outcome 3: the stack lacks room after the instruction at index
+ * On 1 to 5 the stack is all zero. A cell is 0 when opaque, else 1 + 256 * load index + local. */
+typedef struct {
+    uint32_t outcome;
+    uint64_t height;
+    uint64_t count;
+    uint64_t index;
+} korsepal_walk_result;
+
+korsepal_walk_result korsepal_walk(const uint8_t *bytes, size_t bytes_count, uint64_t leader, uint64_t fault, uint64_t *stack,
+                                   size_t stack_count);
+
+/* The name of a local whose load stands at an index: answer 0 with its length, written at the start of the output; or 2, 4
+ * and 5 as a report's, with the output unchanged. */
+typedef struct {
+    uint32_t answer;
+    uint64_t value;
+} korsepal_name_result;
+
+korsepal_name_result korsepal_local_name(const uint8_t *bytes, size_t bytes_count, uint64_t local, uint64_t load,
+                                         uint8_t *output, size_t output_count);
+
+/* The parameters of a method's descriptor as the messages print them: status 0 with their slots and the length written; 1
+ * unreadable; 4 with the length needed. On 1 and 4 the output is unchanged. */
+typedef struct {
+    uint32_t status;
+    uint64_t slots;
+    uint64_t length;
+} korsepal_parameters_result;
+
+korsepal_parameters_result korsepal_parameters(const uint8_t *descriptor, size_t descriptor_count, uint8_t *output,
+                                               size_t output_count);
+
+/* The slots of what a method returns, and of a field: status 0 and the slots, or 1 where they can't be read. */
+typedef struct {
+    uint32_t status;
+    uint32_t slots;
+} korsepal_slots_result;
+
+korsepal_slots_result korsepal_return_slots(const uint8_t *descriptor, size_t descriptor_count);
+korsepal_slots_result korsepal_field_slots(const uint8_t *descriptor, size_t descriptor_count);
+
+/* A descriptor read strictly: refusal 0 and the count of types, or document 01's number of the refusal, 1 to 14. Four numbers
+ * a type are written: base letter, dimensions, where the class name starts and its length (0 and 0 without one); a method's
+ * return comes last. A refusal leaves the numbers unchanged. */
+typedef struct {
+    uint32_t refusal;
+    uint64_t count;
+} korsepal_types_result;
+
+korsepal_types_result korsepal_parse_type(const uint8_t *descriptor, size_t descriptor_count, uint64_t *numbers,
+                                          size_t numbers_count);
+korsepal_types_result korsepal_parse_method(const uint8_t *descriptor, size_t descriptor_count, uint64_t *numbers,
+                                            size_t numbers_count);
+
+#ifdef __cplusplus
+}
+#endif
+
+#endif
