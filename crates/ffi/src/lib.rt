@@ -388,3 +388,30 @@ fn write_name(
         value: needed as u64,
     }
 }
+
+// Writes the name of a local, whose load stands at an index of the code, by the records and the signature of a case.
+#[no_mangle]
+pub extern "C" fn korsepal_local_name(case: &[u8], local: u64, load: u64, output: &mut [u8]) -> KorsepalName
+    ensures answers { λ r. ⌜ r ≡ nameNumbers (caseName (now (case .entry)) local load (length (now (output .entry))) (caseOf (now (case .entry)))) ⌝ }
+    ensures leaves { λ r. ⌜ now (output .exit) ≡ caseNamed (now (case .entry)) local load (now (output .entry)) (caseOf (now (case .entry))) ⌝ }
+{
+    match casefile::read_case(case) {
+        Case::TooLong => KorsepalName {
+            answer: 5,
+            value: 0,
+        },
+        Case::Wrong(at) => KorsepalName {
+            answer: 2,
+            value: at as u64,
+        },
+        Case::Parts(places) => {
+            let records = places.records;
+            let records_end = records + places.records_length;
+            let signature = places.signature;
+            let signature_end = signature + places.signature_length;
+            let count = places.record_count;
+            let instance = report::is_instance(places.flags);
+            write_name(output, &case[records..records_end], count, &case[signature..signature_end], instance, local as usize, load as usize)
+        }
+    }
+}

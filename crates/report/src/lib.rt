@@ -189,7 +189,7 @@ fn write_message(
 }
 
 // Whether a method has a receiver: flag 8 is clear.
-fn is_instance(flags: usize) -> bool
+pub fn is_instance(flags: usize) -> bool
     ensures { λ r. ⌜ r ≡ isInstance flags ⌝ }
 {
     flags / 8 % 2 == 0
