@@ -1,14 +1,16 @@
 -- The walk and the names of a case, by how it was read.
 -- Assumes nothing.
-use Prim.Native.Nat.{ℕ, _+_, _-_, _≤_}
+use Prim.Native.Nat.{ℕ, _+_, _-_}
 use native.Mathlib.Omega.{arith}
-use mathlib.Core.Path.{_≡_, refl, _∙_, sym, ap}
+use mathlib.Core.Path.{_≡_}
 use mathlib.Core.List.{List}
-use lib.ListN.{length, take, drop}
+use lib.ListN.{take, drop}
 use Rattle.block.specs.Room.{blockWalk}
 use Rattle.casefile.specs.Parts.{partsOf}
 use Rattle.casefile.specs.declared.Places.{Places}
-use Rattle.ffi.specs.Numbers.{walkIn}
+use Rattle.locals.specs.Name.{localName}
+use Rattle.report.specs.Report.{isInstance}
+use Rattle.ffi.specs.Numbers.{walkIn, nameIn}
 
 -- the walk of the parts that are cut out of a case from their places to their ends
 pub walk-in :
@@ -21,3 +23,15 @@ walk-in bytes p leader fault room =
     let code : p .code + p .«code_length» - p .code ≡ p .«code_length» = omega arith in
     let members : p .members + p .«members_length» - p .members ≡ p .«members_length» = omega arith in
     rw (code, members)
+
+-- the name by the parts that are cut out so
+pub name-in :
+    (bytes : List ℕ) (p : Places) (local load : ℕ) →
+    localName (take (p .records + p .«records_length» - p .records) (drop (p .records) bytes)) (p .«record_count»)
+    (take (p .signature + p .«signature_length» - p .signature) (drop (p .signature) bytes)) (isInstance (p .flags)) local load
+    ≡ nameIn (partsOf bytes p) local load
+unfolding partsOf
+name-in bytes p local load =
+    let records : p .records + p .«records_length» - p .records ≡ p .«records_length» = omega arith in
+    let signature : p .signature + p .«signature_length» - p .signature ≡ p .«signature_length» = omega arith in
+    rw (records, signature)

@@ -391,7 +391,12 @@ fn write_name(
 
 // Writes the name of a local, whose load stands at an index of the code, by the records and the signature of a case.
 #[no_mangle]
-pub extern "C" fn korsepal_local_name(case: &[u8], local: u64, load: u64, output: &mut [u8]) -> KorsepalName
+pub extern "C" fn korsepal_local_name(
+    case: &[u8],
+    local: u64,
+    load: u64,
+    output: &mut [u8],
+) -> KorsepalName
     ensures answers { λ r. ⌜ r ≡ nameNumbers (caseName (now (case .entry)) local load (length (now (output .entry))) (caseOf (now (case .entry)))) ⌝ }
     ensures leaves { λ r. ⌜ now (output .exit) ≡ caseNamed (now (case .entry)) local load (now (output .entry)) (caseOf (now (case .entry))) ⌝ }
 {
@@ -411,7 +416,15 @@ pub extern "C" fn korsepal_local_name(case: &[u8], local: u64, load: u64, output
             let signature_end = signature + places.signature_length;
             let count = places.record_count;
             let instance = report::is_instance(places.flags);
-            write_name(output, &case[records..records_end], count, &case[signature..signature_end], instance, local as usize, load as usize)
+            write_name(
+                output,
+                &case[records..records_end],
+                count,
+                &case[signature..signature_end],
+                instance,
+                local as usize,
+                load as usize,
+            )
         }
     }
 }

@@ -1,28 +1,22 @@
+-- `ffi::korsepal_block_leader` meets its contract. One arm an answer.
+-- Assumes nothing.
 use mathlib.Core.Path.{sym, _∙_}
 use borrow.Author.Needs.{needs}
 use Rattle.ffi.proofs.korsepal_block_leader.Statement.{statement}
 use Rattle.ffi.proofs.korsepal_block_leader.Tie as tie
-use Rattle.ffi.proofs.korsepal_block_leader.Reads as reads
-use Rattle.ffi.proofs.korsepal_block_leader.Lts as lts
-use Rattle.leader.proofs.block_leader.Reads as block-leader-reads
 
--- src/lib.rt:119:11
 block-leader-requires : tie.Need-block-leader-requires
 block-leader-requires c κs = search needs
 
--- src/lib.rt:120:24
 enum-known-at : tie.Need-enum-known-at
 enum-known-at c = search needs
 
--- src/lib.rt:125:35
 enum-known-count : tie.Need-enum-known-count
 enum-known-count c = search needs
 
--- src/lib.rt:115:1
 returns : tie.Need-returns
 returns c = rw (sym (c .before .before .before .block-leader .ensures) ∙ c .before .at .given .1)
 
--- src/lib.rt:115:1
 returns-2 : tie.Need-returns-2
 returns-2 c = rw (sym (c .before .before .before .block-leader .ensures) ∙ c .before .count .given .1)
 

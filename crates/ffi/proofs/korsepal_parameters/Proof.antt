@@ -1,45 +1,36 @@
-use Rattle.ffi.specs.Numbers.{listNumbers}
-use Rattle.report.proofs.Writing as writing
-use denote.Ref.{now}
-use lib.ListN.{length}
+-- `ffi::korsepal_parameters` meets its contract. The list is measured by writing it to no output, and written where there is room for all of it.
+-- Assumes nothing.
 use Prim.Native.Nat.{_-_, _^_, _<_}
-use mathlib.Core.Path.{_≡_, refl, sym, ap, _∙_}
 use native.Mathlib.Omega.{arith}
+use mathlib.Core.Path.{refl, sym, ap, _∙_}
+use lib.ListN.{length}
+use denote.Ref.{now}
 use borrow.Author.Needs.{needs}
+use Rattle.report.proofs.Writing as writing
+use Rattle.ffi.specs.Numbers.{listNumbers}
 use Rattle.ffi.proofs.korsepal_parameters.Statement.{statement}
 use Rattle.ffi.proofs.korsepal_parameters.Tie as tie
-use Rattle.ffi.proofs.korsepal_parameters.Reads as reads
-use Rattle.ffi.proofs.korsepal_parameters.Lts as lts
-use Rattle.descriptor.proofs.parse_method_params.Reads as parse-method-params-reads
-use Rattle.names.proofs.put_params_at.Reads as put-params-at-reads
 
--- src/lib.rt:304:42
 parse-method-params-requires : tie.Need-parse-method-params-requires
 parse-method-params-requires c κs = search needs
 
--- src/lib.rt:304:24
 enum-known-slots : tie.Need-enum-known-slots
 enum-known-slots c = search needs
 
--- src/lib.rt:305:9
 enum-told : tie.Need-enum-told
 enum-told c = search needs
 
--- src/lib.rt:305:9
 returns : tie.Need-returns
 returns c =
     let read = sym (c .before .before .parse-method-params .ensures) ∙ c .enum-told .given .1 in
     (rw read refl, rw read refl)
 
--- src/lib.rt:312:39
 slice-aggregate-put-params-at : tie.Need-slice-aggregate-put-params-at
 slice-aggregate-put-params-at c = search needs
 
--- src/lib.rt:312:9
 put-params-at-requires : tie.Need-put-params-at-requires
 put-params-at-requires c κs = search needs
 
--- src/lib.rt:314:9
 returns-2 : tie.Need-returns-2
 returns-2 c =
     let a = c .before .before .before .before .before .before .before .before .before .before .args in
@@ -47,15 +38,12 @@ returns-2 c =
     let told = writing.no-room _ 0 0 0 (now (a .output)) _ _ (c .before .before .put-params-at .ensures) (c .if1 .taken) in
     (rw read (ap (listNumbers (c .before .before .before .before .before .slots .given .0 .0)) (told .0)), rw read (told .1))
 
--- src/lib.rt:320:5
 put-params-at-requires-2 : tie.Need-put-params-at-requires-2
 put-params-at-requires-2 c κs = search needs
 
--- src/lib.rt:299:1
 same-length : tie.Need-same-length
 same-length c = search needs
 
--- src/lib.rt:299:1
 returns-3 : tie.Need-returns-3
 returns-3 c =
     let a = c .before .before .before .before .before .before .before .before .before .before .before .before .before .before .args in

@@ -1,88 +1,66 @@
+-- `ffi::report_numbers` meets its contract. One arm an answer.
+-- Assumes nothing.
 use borrow.Author.Needs.{needs}
 use Rattle.ffi.proofs.report_numbers.Statement.{statement}
 use Rattle.ffi.proofs.report_numbers.Tie as tie
-use Rattle.ffi.proofs.report_numbers.Reads as reads
-use Rattle.ffi.proofs.report_numbers.Lts as lts
-use Rattle.ffi.proofs.carried.Reads as carried-reads
-use Rattle.ffi.proofs.low_bits.Reads as low-bits-reads
 
--- src/lib.rt:74:27
 enum-known-answer : tie.Need-enum-known-answer
 enum-known-answer c = search needs
 
--- src/lib.rt:76:19
 low-bits-requires : tie.Need-low-bits-requires
 low-bits-requires c κs = search needs
 
--- src/lib.rt:77:19
 low-bits-requires-2 : tie.Need-low-bits-requires-2
 low-bits-requires-2 c κs = search needs
 
--- src/lib.rt:78:20
 low-bits-requires-3 : tie.Need-low-bits-requires-3
 low-bits-requires-3 c κs = search needs
 
--- src/lib.rt:81:30
 enum-told : tie.Need-enum-told
 enum-told c = search needs
 
--- src/lib.rt:81:30
 carried-requires : tie.Need-carried-requires
 carried-requires c κs = search needs
 
--- src/lib.rt:82:26
 enum-known-answer-2 : tie.Need-enum-known-answer-2
 enum-known-answer-2 c = search needs
 
--- src/lib.rt:82:34
 carried-requires-2 : tie.Need-carried-requires-2
 carried-requires-2 c κs = search needs
 
--- src/lib.rt:83:26
 enum-known-answer-3 : tie.Need-enum-known-answer-3
 enum-known-answer-3 c = search needs
 
--- src/lib.rt:83:34
 carried-requires-3 : tie.Need-carried-requires-3
 carried-requires-3 c κs = search needs
 
--- src/lib.rt:84:28
 enum-known-answer-4 : tie.Need-enum-known-answer-4
 enum-known-answer-4 c = search needs
 
--- src/lib.rt:84:40
 carried-requires-4 : tie.Need-carried-requires-4
 carried-requires-4 c κs = search needs
 
--- src/lib.rt:85:28
 enum-told-2 : tie.Need-enum-told-2
 enum-told-2 c = search needs
 
--- src/lib.rt:85:28
 carried-requires-5 : tie.Need-carried-requires-5
 carried-requires-5 c κs = search needs
 
--- src/lib.rt:70:1
 returns : tie.Need-returns
 returns c = rw (c .before .before .before .before .answer .given .1, c .before .before .low-bits .ensures, c .before .low-bits2 .ensures, c .low-bits3 .ensures)
 
--- src/lib.rt:70:1
 returns-2 : tie.Need-returns-2
 returns-2 c = rw (c .before .enum-told .given .1) (c .carried .ensures)
 
--- src/lib.rt:70:1
 returns-3 : tie.Need-returns-3
 returns-3 c = rw (c .before .before .answer2 .given .1) (c .carried2 .ensures)
 
--- src/lib.rt:70:1
 returns-4 : tie.Need-returns-4
 returns-4 c = rw (c .before .before .answer3 .given .1) (c .carried3 .ensures)
 
--- src/lib.rt:70:1
 returns-5 : tie.Need-returns-5
 returns-5 c = rw (c .before .before .answer4 .given .1) (c .carried4 .ensures)
 
--- src/lib.rt:70:1
 returns-6 : tie.Need-returns-6
 returns-6 c = rw (c .before .enum-told2 .given .1) (c .carried5 .ensures)
 

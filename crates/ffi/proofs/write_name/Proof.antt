@@ -1,42 +1,34 @@
-use Rattle.ffi.specs.Numbers.{nameNumbers}
-use Rattle.report.proofs.Writing as writing
-use Rattle.locals.specs.Name.{localName}
-use denote.Ref.{now}
-use lib.ListN.{length}
+-- `ffi::write_name` meets its contract. The name is measured by writing it to no output, and written where there is room for all of it.
+-- Assumes nothing.
 use Prim.Native.Nat.{_-_, _^_, _<_}
-use mathlib.Core.Path.{_≡_, ap}
 use native.Mathlib.Omega.{arith}
+use mathlib.Core.Path.{ap}
+use lib.ListN.{length}
+use denote.Ref.{now}
 use borrow.Author.Needs.{needs}
+use Rattle.report.proofs.Writing as writing
+use Rattle.ffi.specs.Numbers.{nameNumbers}
 use Rattle.ffi.proofs.write_name.Statement.{statement}
 use Rattle.ffi.proofs.write_name.Tie as tie
-use Rattle.ffi.proofs.write_name.Reads as reads
-use Rattle.ffi.proofs.write_name.Lts as lts
-use Rattle.locals.proofs.describe_local.Reads as describe-local-reads
 
--- src/lib.rt:334:41
 slice-aggregate-describe-local : tie.Need-slice-aggregate-describe-local
 slice-aggregate-describe-local c = search needs
 
--- src/lib.rt:334:9
 describe-local-requires : tie.Need-describe-local-requires
 describe-local-requires c κs = search needs
 
--- src/lib.rt:336:9
 returns : tie.Need-returns
 returns c =
     let a = c .before .before .before .before .before .before .before .args in
     let told = writing.no-room _ 0 0 0 (now (a .out)) _ _ (c .before .before .describe-local .ensures) (c .if1 .taken) in
     (ap nameNumbers (told .0), told .1)
 
--- src/lib.rt:341:5
 describe-local-requires-2 : tie.Need-describe-local-requires-2
 describe-local-requires-2 c κs = search needs
 
--- src/lib.rt:329:1
 same-length : tie.Need-same-length
 same-length c = search needs
 
--- src/lib.rt:329:1
 returns-2 : tie.Need-returns-2
 returns-2 c =
     let a = c .before .before .before .before .before .before .before .before .before .before .before .args in
