@@ -1,7 +1,7 @@
 /* Korsepal: the null-report module, as a static library (libffi.a, x86-64).
  *
  * Every function takes any input, ends, and touches nothing but the memory that it is lent. A slice is two arguments, a
- * pointer and a count; a count of 0 goes with any pointer that is not null. Nothing is allocated and nothing is kept.
+ * pointer and a count. Nothing is allocated and nothing is kept.
  * "Document 01" is the customer's requirements; the numbers are those of its "Numbers returned". A number that is not named
  * for an answer is 0. */
 #ifndef KORSEPAL_H
