@@ -1,0 +1,81 @@
+//! `build_message` with the shape of the Rust's: it lays out a case from what the virtual machine has at hand, and reports.
+use crate::case::{Case, Kind, LocalRecord, Member};
+use crate::{report, Answer};
+use std::collections::BTreeMap;
+
+/// Fields and methods are cited by the operand behind these opcodes: getstatic to invokeinterface.
+const CITING: std::ops::RangeInclusive<u8> = 178..=185;
+
+/// What an opcode cites: the first four a field, the others a method.
+fn cited_kind(opcode: u8) -> Kind {
+    if opcode <= 181 {
+        Kind::Field
+    } else {
+        Kind::Method
+    }
+}
+
+/// The members that some byte of the code could cite. A walk may enter anywhere, so every byte that has such an opcode's value
+/// counts. A case holds one member to a pool index; the constant pool too has one entry there.
+fn cited_members(code: &[u8], lookup: &impl Fn(u16, Kind) -> Option<Member>) -> Vec<(u16, Member)> {
+    let mut members = BTreeMap::new();
+    for place in code.windows(3) {
+        if CITING.contains(&place[0]) {
+            let index = u16::from_be_bytes([place[1], place[2]]);
+            if index > 0 {
+                if let Some(member) = lookup(index, cited_kind(place[0])) {
+                    members.entry(index).or_insert(member);
+                }
+            }
+        }
+    }
+    members.into_iter().collect()
+}
+
+/// The message for a fault, or `None` where there is none: in the place of rusty-jvm's `build_message`.
+///
+/// `lookup` answers the member at a pool index if it is of that kind, as `get_full_field_info` and `get_full_method_info` do.
+/// `None` also where a case can't hold the method (a text or a code above 65,535 bytes, a case above 1,048,576).
+///
+/// ```
+/// use korsepal::{build_message, Kind, Member};
+///
+/// let lookup = |index: u16, kind: Kind| {
+///     (index == 1 && kind == Kind::Method).then(|| Member {
+///         kind,
+///         class: b"java/lang/String".to_vec(),
+///         name: b"length".to_vec(),
+///         descriptor: b"()I".to_vec(),
+///     })
+/// };
+/// let message = build_message(8, &[0x2a, 0xb6, 0, 1, 0x57, 0xb1], "m:(Ljava/lang/String;)V", lookup, &[], 1);
+/// assert_eq!(message.as_deref(), Some("Cannot invoke \"String.length()\" because \"<parameter1>\" is null"));
+/// ```
+pub fn build_message(
+    access_flags: u16,
+    code: &[u8],
+    name_signature: &str,
+    lookup: impl Fn(u16, Kind) -> Option<Member>,
+    records: &[LocalRecord],
+    fault: usize,
+) -> Option<String> {
+    let case = Case {
+        flags: access_flags,
+        fault: u16::try_from(fault).ok()?,
+        code: code.to_vec(),
+        signature: name_signature.as_bytes().to_vec(),
+        members: cited_members(code, &lookup),
+        records: records.to_vec(),
+    };
+    let bytes = case.bytes()?;
+    let mut stack = vec![0; 256];
+    let mut output = vec![0; 512];
+    loop {
+        match report(&bytes, &mut stack, &mut output) {
+            Answer::Message { text, .. } => return String::from_utf8(text.to_vec()).ok(),
+            Answer::NoRoom { .. } => stack = vec![0; stack.len() * 4],
+            Answer::NoOutput { needed } => output = vec![0; needed as usize],
+            Answer::NoMessage | Answer::Broken { .. } | Answer::TooLong => return None,
+        }
+    }
+}
