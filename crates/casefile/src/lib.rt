@@ -7,6 +7,7 @@ ghost use Rattle.casefile.specs.Text.{textAt, textWithin, textPart, afte
 ghost use Rattle.casefile.specs.Layout.{runBy, runWithin, threeTexts, membersThen, recordsThen, ended};
 ghost use Rattle.casefile.specs.Member.{memberAt, memberWithin, memberFound};
 ghost use Rattle.casefile.specs.LocalRecord.{recordAt, recordWithin};
+ghost use Rattle.casefile.specs.Parts.{partAt};
 ghost use Rattle.casefile.specs.Whole.{tablesAt, caseOf};
 
 // The greatest number of a case, and of a text's length.
@@ -342,6 +343,20 @@ pub fn read_case(bytes: &[u8]) -> Case
     }
 }
 
+// The part of a case at a place, as far as the case reaches.
+pub fn part_at<'a>(bytes: &'a [u8], start: usize, size: usize) -> &'a [u8]
+    ensures { λ r. ⌜ now r ≡ partAt (now (bytes .entry)) start size ⌝ }
+{
+    if bytes.len() <= start {
+        return &bytes[..0];
+    }
+    if bytes.len() - start < size {
+        return &bytes[start..];
+    }
+    let end = start + size;
+    &bytes[start..end]
+}
+
 // The part of a member run that holds the three texts of the member with a pool index and kind. It is empty where there
 // is no such member: a member of the other kind at the index is missing too, and so is one that can't be read.
 pub fn find_member<'a>(members: &'a [u8], count: usize, index: usize, kind: usize) -> &'a [u8]
@@ -376,8 +391,7 @@ fn text_part<'a>(texts: &'a [u8], at: usize) -> &'a [u8]
     let Text::Place(start, length) = read_text(texts, at) else {
         return &texts[..0];
     };
-    let end = start + length;
-    &texts[start..end]
+    part_at(texts, start, length)
 }
 
 // The place behind the text at a place, the end where there is no text.

@@ -3,6 +3,7 @@ use block::Walk;
 use block::clear;
 use bytecode::Measure;
 use casefile::Case;
+use casefile::part_at;
 use descriptor::Params;
 use descriptor::Slots;
 use jdescriptor::Answer;
@@ -269,15 +270,12 @@ pub extern "C" fn korsepal_walk(
             }
         }
         Case::Parts(places) => {
-            let code = places.code;
-            let code_end = code + places.code_length;
-            let members = places.members;
-            let members_end = members + places.members_length;
-            let count = places.member_count;
+            let code = part_at(case, places.code, places.code_length);
+            let members = part_at(case, places.members, places.members_length);
             let walk = block::simulate_block(
-                &case[code..code_end],
-                &case[members..members_end],
-                count,
+                code,
+                members,
+                places.member_count,
                 leader as usize,
                 fault as usize,
                 stack,
@@ -410,17 +408,14 @@ pub extern "C" fn korsepal_local_name(
             value: at as u64,
         },
         Case::Parts(places) => {
-            let records = places.records;
-            let records_end = records + places.records_length;
-            let signature = places.signature;
-            let signature_end = signature + places.signature_length;
-            let count = places.record_count;
+            let records = part_at(case, places.records, places.records_length);
+            let signature = part_at(case, places.signature, places.signature_length);
             let instance = report::is_instance(places.flags);
             write_name(
                 output,
-                &case[records..records_end],
-                count,
-                &case[signature..signature_end],
+                records,
+                places.record_count,
+                signature,
                 instance,
                 local as usize,
                 load as usize,

@@ -1,19 +1,17 @@
 -- What is said of parts, by what their fault decodes to and its trace.
 -- Assumes nothing.
-use Prim.Native.Nat.{ℕ, _+_, _-_}
-use native.Mathlib.Omega.{arith}
+use Prim.Native.Nat.{ℕ}
 use mathlib.Core.Bool.{Bool}
 use mathlib.Core.List.{List}
 use mathlib.Core.Path.{_≡_, refl}
-use lib.ListN.{length, take, drop}
+use lib.ListN.{length}
 use Rattle.block.specs.declared.Slot.{Slot}
-use Rattle.casefile.specs.Parts.{Parts, partsOf}
-use Rattle.casefile.specs.declared.Places.{Places}
+use Rattle.casefile.specs.Parts.{Parts}
 use Rattle.fault.specs.Decoding.{decoded}
 use Rattle.fault.specs.declared.Action.{Action}
 use Rattle.fault.specs.declared.Fault.the-variants.{Failed, Nothing}
 use Rattle.message.specs.Message.{messageText}
-use Rattle.report.specs.Report.{isInstance, kindOf, messageOf, partsBy, said, saidOf, answerBy, outputBy}
+use Rattle.report.specs.Report.{isInstance, kindOf, messageOf, said, saidOf, answerBy, outputBy}
 use Rattle.report.specs.Trace.{traced}
 use Rattle.report.specs.declared.Report.the-variants as report
 use Rattle.report.specs.declared.Report.{Report}
@@ -52,19 +50,3 @@ module _ (p : Parts) (room : ℕ) (out : List ℕ) where
         Reports answer left
     unfolding saidOf messageOf
     is-said scan block cause e t instance i answer left a l = rw (e, t, ← i) (a, l)
-
--- the parts that are cut out of a case from their places to their ends
-pub parts-are :
-    (bytes : List ℕ) (p : Places) →
-    partsBy (p .flags) (p .fault) (take (p .code + p .«code_length» - p .code) (drop (p .code) bytes))
-    (take (p .signature + p .«signature_length» - p .signature) (drop (p .signature) bytes))
-    (take (p .members + p .«members_length» - p .members) (drop (p .members) bytes)) (p .«member_count»)
-    (take (p .records + p .«records_length» - p .records) (drop (p .records) bytes)) (p .«record_count»)
-    ≡ partsOf bytes p
-unfolding partsOf
-parts-are bytes p =
-    let code : p .code + p .«code_length» - p .code ≡ p .«code_length» = omega arith in
-    let signature : p .signature + p .«signature_length» - p .signature ≡ p .«signature_length» = omega arith in
-    let members : p .members + p .«members_length» - p .members ≡ p .«members_length» = omega arith in
-    let records : p .records + p .«records_length» - p .records ≡ p .«records_length» = omega arith in
-    rw (code, signature, members, records)

@@ -3,6 +3,7 @@ use block::Slot;
 use block::Walk;
 use block::clear;
 use casefile::Case;
+use casefile::part_at;
 use fault::Action;
 use fault::Fault;
 use leader::Scan;
@@ -254,22 +255,18 @@ pub fn build_message(case: &[u8], stack: &mut [u64], out: &mut [u8]) -> Report
             Report::Broken { at }
         }
         Case::Parts(places) => {
-            let code = places.code;
-            let code_end = code + places.code_length;
-            let signature = places.signature;
-            let signature_end = signature + places.signature_length;
-            let members = places.members;
-            let members_end = members + places.members_length;
-            let records = places.records;
-            let records_end = records + places.records_length;
+            let code = part_at(case, places.code, places.code_length);
+            let signature = part_at(case, places.signature, places.signature_length);
+            let members = part_at(case, places.members, places.members_length);
+            let records = part_at(case, places.records, places.records_length);
             report_parts(
                 places.flags,
                 places.fault,
-                &case[code..code_end],
-                &case[signature..signature_end],
-                &case[members..members_end],
+                code,
+                signature,
+                members,
                 places.member_count,
-                &case[records..records_end],
+                records,
                 places.record_count,
                 stack,
                 out,

@@ -1,7 +1,5 @@
 -- `casefile::text_part` meets its contract. The part has the text's start and length.
 -- Assumes nothing.
-use native.Mathlib.Nat.{add-sub-cancel-left}
-use native.Mathlib.Omega.{arith}
 use mathlib.Core.Path.{_∙_, sym}
 use borrow.Author.Needs.{needs}
 use Rattle.casefile.specs.Text.{textPart}
@@ -28,25 +26,15 @@ returns c =
     let enum-told-is = sym (after-read-text .read-text .ensures .0) ∙ after-enum-told .enum-told .given .1 in
     sym (rw (enum-told-is))
 
-add-end : tie.Need-add-end
-add-end c = omega (arith, rw (c .before .start .given .1) at (c .before .before .before .read-text .ensures .1))
-
-sub-result : tie.Need-sub-result
-sub-result c = search needs
-
-part-result-start : tie.Need-part-result-start
-part-result-start c = search needs
-
-part-result-end : tie.Need-part-result-end
-part-result-end c = omega (arith, rw (c .before .start .given .1) at (c .before .before .before .read-text .ensures .1))
+part-at-requires : tie.Need-part-at-requires
+part-at-requires c κs = search needs
 
 returns-2 : tie.Need-returns-2
 unfolding textPart
 returns-2 c =
     let after-start = c .before .before in
-    let after-read-text = after-start .before .before in
-    let start-is = sym (after-read-text .read-text .ensures .0) ∙ after-start .start .given .1 in
-    simp (start-is, add-sub-cancel-left)
+    let start-is = sym (after-start .before .before .read-text .ensures .0) ∙ after-start .start .given .1 in
+    c .part-at .ensures ∙ sym (rw start-is)
 
 pub text-part-spec : {M : Type 1} → statement M
 text-part-spec =
@@ -57,8 +45,5 @@ text-part-spec =
     enum-told
     slice-aggregate-result
     returns
-    add-end
-    sub-result
-    part-result-start
-    part-result-end
+    part-at-requires
     returns-2)

@@ -1,16 +1,9 @@
--- `ffi::korsepal_walk` meets its contract. The parts lie in the case, and their walk is the library's.
+-- `ffi::korsepal_walk` meets its contract. The walk is that of the parts of the case.
 -- Assumes nothing.
-use native.Mathlib.Omega.{arith}
-use mathlib.Core.Path.{refl, sym, ap, _∙_, subst}
-use lib.ListN.{length}
-use denote.Ref.{now}
+use mathlib.Core.Path.{_∙_, sym, ap, refl}
 use borrow.Author.Needs.{needs}
-use Rattle.block.specs.Room.{answerOf, cellsOf}
-use Rattle.casefile.specs.declared.Case.the-variants.{Parts}
-use Rattle.casefile.specs.declared.Case.{Case}
-use Rattle.report.proofs.Inside.{Inside, parts-inside}
+use Rattle.casefile.specs.Parts.{partsOf}
 use Rattle.ffi.specs.Numbers.{walkNumbers}
-use Rattle.ffi.proofs.Cases.{walk-in}
 use Rattle.ffi.proofs.korsepal_walk.Statement.{statement}
 use Rattle.ffi.proofs.korsepal_walk.Tie as tie
 
@@ -32,34 +25,11 @@ clear-requires-2 c κs = search needs
 enum-known-places : tie.Need-enum-known-places
 enum-known-places c = search needs
 
-inside : (c : tie.After-known-told2) → Inside (length (c .before .before .before .before .before .before .args .case .now)) (Parts (c .before .places .given .0 .0))
-inside c =
-    let case = c .before .before .before .before .before .before .args .case .now in
-    subst (λ (x : Case). Inside (length case) x) (c .before .places .given .1) (parts-inside case _ (c .before .before .before .read-case .ensures))
+part-at-requires : tie.Need-part-at-requires
+part-at-requires c κs = search needs
 
-add-code-end : tie.Need-add-code-end
-add-code-end c = omega (arith, inside (c .before))
-
-add-members-end : tie.Need-add-members-end
-add-members-end c = omega (arith, inside (c .before .before))
-
-sub-simulate-block : tie.Need-sub-simulate-block
-sub-simulate-block c = search needs
-
-part-simulate-block-start : tie.Need-part-simulate-block-start
-part-simulate-block-start c = search needs
-
-part-simulate-block-end : tie.Need-part-simulate-block-end
-part-simulate-block-end c = omega (arith, inside (c .before .before))
-
-sub-simulate-block-2 : tie.Need-sub-simulate-block-2
-sub-simulate-block-2 c = search needs
-
-part-simulate-block-start-2 : tie.Need-part-simulate-block-start-2
-part-simulate-block-start-2 c = search needs
-
-part-simulate-block-end-2 : tie.Need-part-simulate-block-end-2
-part-simulate-block-end-2 c = omega (arith, inside (c .before .before .before))
+part-at-requires-2 : tie.Need-part-at-requires-2
+part-at-requires-2 c κs = search needs
 
 simulate-block-requires : tie.Need-simulate-block-requires
 simulate-block-requires c κs = search needs
@@ -72,27 +42,34 @@ same-length c = search needs
 
 returns : tie.Need-returns
 returns c =
-    let told = sym (c .before .before .before .before .before .before .read-case .ensures) ∙ c .before .before .before .before .enum-told .given .1 in
-    (rw told refl, rw told (c .before .before .clear .ensures))
+    let clear = c .before .before in
+    let told = sym (clear .before .before .before .before .read-case .ensures) ∙ clear .before .before .enum-told .given .1 in
+    (rw told refl, rw told (clear .clear .ensures))
 
 same-length-2 : tie.Need-same-length-2
 same-length-2 c = search needs
 
 returns-2 : tie.Need-returns-2
 returns-2 c =
-    let told = sym (c .before .before .before .before .before .before .before .read-case .ensures) ∙ c .before .before .before .before .before .at .given .1 in
-    (rw told refl, rw told (c .before .before .clear2 .ensures))
+    let clear = c .before .before in
+    let wrong = clear .before .before .before in
+    let told = sym (wrong .before .before .read-case .ensures) ∙ wrong .at .given .1 in
+    (rw told refl, rw told (clear .clear2 .ensures))
 
 same-length-3 : tie.Need-same-length-3
 same-length-3 c = search needs
 
 returns-3 : tie.Need-returns-3
+unfolding partsOf
 returns-3 c =
-    let a = c .before .before .before .before .before .before .before .before .before .before .before .before .before .before .before .args in
-    let told = sym (c .before .before .before .before .before .before .before .before .before .before .before .before .read-case .ensures) ∙ c .before .before .before .before .before .before .before .before .before .before .places .given .1 in
-    let walk = walk-in (now (a .case)) (c .before .before .before .before .before .before .before .before .before .before .places .given .0 .0) (a .leader) (a .fault) (length (now (a .stack))) in (
-      rw told (c .walk-numbers .ensures ∙ ap walkNumbers (c .before .before .before .simulate-block .ensures .0 ∙ ap answerOf walk)),
-      rw told (c .before .before .before .simulate-block .ensures .1 ∙ ap (cellsOf (length (now (a .stack)))) walk),
+    let walk = c .before .before .before in
+    let members = walk .before .before in
+    let code = members .before in
+    let read = code .before .before in
+    let told = sym (read .before .before .read-case .ensures) ∙ read .places .given .1 in (
+      rw (told, ← code .part-at .ensures, ← members .part-at2 .ensures)
+          (c .walk-numbers .ensures ∙ ap walkNumbers (walk .simulate-block .ensures .0)),
+      rw (told, ← code .part-at .ensures, ← members .part-at2 .ensures) (walk .simulate-block .ensures .1),
     )
 
 pub korsepal-walk-spec : {M : Type 1} → statement M
@@ -105,14 +82,8 @@ korsepal-walk-spec =
     enum-known-at
     clear-requires-2
     enum-known-places
-    add-code-end
-    add-members-end
-    sub-simulate-block
-    part-simulate-block-start
-    part-simulate-block-end
-    sub-simulate-block-2
-    part-simulate-block-start-2
-    part-simulate-block-end-2
+    part-at-requires
+    part-at-requires-2
     simulate-block-requires
     walk-numbers-requires
     same-length
