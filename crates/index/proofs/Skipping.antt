@@ -1,16 +1,16 @@
 -- Behind the members of earlier buckets a lookup finds what it finds before them.
 -- Assumes nothing.
-use Prim.Native.Nat.{ℕ, zero, suc, _+_, _-_, _*_, _/_, _≤_, _<_}
+use Prim.Native.Nat.{ℕ, zero, suc, _-_, _≤_, _<_}
 use native.Mathlib.Omega.{arith}
 use native.Mathlib.Nat.{not-suc-le-zero}
 use native.Mathlib.Numerals.{sub-one}
 use mathlib.Core.Path.{_≡_, refl, _∙_, sym, ap}
 use mathlib.Core.Bool.{Bool, true, false}
-use mathlib.Core.List.{List, []}
-use lib.Dec.{eqb, leb}
+use mathlib.Core.List.{List}
+use lib.Dec.{leb}
 use borrow.Author.Tests.{ne-eqb, lt-leb, leb-false}
 use Rattle.basics.specs.Choice.{pick}
-use Rattle.casefile.specs.Member.{memberAt, thenMember, textsOf, memberFound}
+use Rattle.casefile.specs.Member.{memberAt, thenMember, memberFound}
 use Rattle.casefile.specs.declared.Member.{Member}
 use Rattle.casefile.specs.declared.Member.the-variants.{Read, Wrong}
 use Rattle.casefile.specs.declared.MemberPlace.{MemberPlace}
@@ -50,7 +50,9 @@ skipped-cases :
 unfolding skipped
 skipped-cases {A = A} bytes bucket left last at stays goes = by-member (memberAt bytes last at) refl
   where
-    by-test : (place : MemberPlace) → memberAt bytes last at ≡ Read place → (t : Bool) → leb bucket (bucketOf (place .index)) ≡ t → A
+    by-test :
+        (place : MemberPlace) → memberAt bytes last at ≡ Read place →
+        (t : Bool) → leb bucket (bucketOf (place .index)) ≡ t → A
     by-test place e true t = stays (rw (e, t))
     by-test place e false t = goes place e (leb-false bucket (bucketOf (place .index)) t)
 

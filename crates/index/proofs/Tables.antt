@@ -29,6 +29,12 @@ module _ (t : List ℕ) (i x y z : ℕ) where
       getD-set-other (set (set t i x) (i + 1) y) (i + 2) cell z 0 c ∙ getD-set-other (set t i x) (i + 1) cell y 0 b
       ∙ getD-set-other t i cell x 0 a
 
+  thrice-before : (cell : ℕ) → cell < i → getD thrice cell 0 ≡ getD t cell 0
+  thrice-before cell l = thrice-other cell (λ e. omega (arith, e, l)) (λ e. omega (arith, e, l)) (λ e. omega (arith, e, l))
+
+  thrice-behind : (cell : ℕ) → i + 2 < cell → getD thrice cell 0 ≡ getD t cell 0
+  thrice-behind cell l = thrice-other cell (λ e. omega (arith, e, l)) (λ e. omega (arith, e, l)) (λ e. omega (arith, e, l))
+
   module _ (fits : i + 2 < length t) where
     thrice-first : getD thrice i 0 ≡ x
     thrice-first =
@@ -88,9 +94,7 @@ module _ (members : List ℕ) (count : ℕ) (before : List ℕ) where
         )
 
     still : (cell : ℕ) → cell < 3 * bucket → getD stored cell 0 ≡ getD table cell 0
-    still cell l =
-        thrice-other table (3 * bucket) (r .at) (r .last) (r .left) cell (λ e. omega (arith, e, l)) (λ e. omega (arith, e, l))
-        (λ e. omega (arith, e, l))
+    still = thrice-before table (3 * bucket) (r .at) (r .last) (r .left)
 
     still-filled : (b : ℕ) → b < bucket → entry stored b ≡ entry table b
     still-filled b l =
@@ -115,9 +119,7 @@ module _ (members : List ℕ) (count : ℕ) (before : List ℕ) where
           long = thrice-length table (3 * bucket) (r .at) (r .last) (r .left) ∙ so .long;
           filled = λ b l. filled-more b l (ltb b bucket) refl;
           kept = λ cell l.
-              thrice-other table (3 * bucket) (r .at) (r .last) (r .left) cell (λ e. omega (arith, e, l)) (λ e. omega (arith, e, l))
-              (λ e. omega (arith, e, l))
-              ∙ so .kept cell (omega (arith, l));
+              thrice-behind table (3 * bucket) (r .at) (r .last) (r .left) cell (omega (arith, l)) ∙ so .kept cell (omega (arith, l));
           ahead = λ b l. ahead-at b (omega (arith, l));
         }
 

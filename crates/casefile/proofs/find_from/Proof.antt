@@ -42,7 +42,8 @@ returns c =
     let enum-told-is = sym (after-read-member .read-member .ensures .0) ∙ after-enum-told .enum-told .given .1 in
     let a = start .args in
     let l = after-loop .loop in
-    let turn = found-turn (a .members .now) (a .index) (a .kind) (l .left) (l .last) (l .at) (after-loop-test .loop-test .taken) in
+    let turn = found-turn (a .members .now) (a .index) (a .kind) (l .left) (l .last) (l .at)
+    (after-loop-test .loop-test .taken) in
     sym (rw (l .inv .0, turn, enum-told-is))
 
 sub-result : tie.Need-sub-result Inv-loop μ-loop
@@ -75,7 +76,8 @@ returns-2 c =
     let member-is = sym (after-read-member .read-member .ensures .0) ∙ after-member .member .given .1 in
     let a = start .args in
     let l = after-loop .loop in
-    let turn = found-turn (a .members .now) (a .index) (a .kind) (l .left) (l .last) (l .at) (after-loop-test .loop-test .taken) in
+    let turn = found-turn (a .members .now) (a .index) (a .kind) (l .left) (l .last) (l .at)
+    (after-loop-test .loop-test .taken) in
     sym (rw (l .inv .0, turn, member-is, eq-eqb _ _ (after-if1 .if1 .taken), eq-eqb _ _ (after-if2 .if2 .taken)))
 
 slice-aggregate-result-2 : tie.Need-slice-aggregate-result-2 Inv-loop μ-loop
@@ -93,7 +95,8 @@ returns-3 c =
     let member-is = sym (after-read-member .read-member .ensures .0) ∙ after-member .member .given .1 in
     let a = start .args in
     let l = after-loop .loop in
-    let turn = found-turn (a .members .now) (a .index) (a .kind) (l .left) (l .last) (l .at) (after-loop-test .loop-test .taken) in
+    let turn = found-turn (a .members .now) (a .index) (a .kind) (l .left) (l .last) (l .at)
+    (after-loop-test .loop-test .taken) in
     sym (rw (l .inv .0, turn, member-is, eq-eqb _ _ (after-if1 .if1 .taken), ne-eqb _ _ (after-if2 .if2 .left)))
 
 slice-aggregate-result-3 : tie.Need-slice-aggregate-result-3 Inv-loop μ-loop
@@ -111,7 +114,8 @@ returns-4 c =
     let member-is = sym (after-read-member .read-member .ensures .0) ∙ after-member .member .given .1 in
     let a = start .args in
     let l = after-loop .loop in
-    let turn = found-turn (a .members .now) (a .index) (a .kind) (l .left) (l .last) (l .at) (after-loop-test .loop-test .taken) in
+    let turn = found-turn (a .members .now) (a .index) (a .kind) (l .left) (l .last) (l .at)
+    (after-loop-test .loop-test .taken) in
     sym (rw (l .inv .0, turn, member-is, ne-eqb _ _ (after-if1 .if1 .left))
     (found-none (a .members .now) (a .index) (a .kind) (l .left - 1) _ _ (omega arith)))
 
@@ -132,7 +136,8 @@ loop-again c =
     let member-is = sym (after-read-member .read-member .ensures .0) ∙ after-member .member .given .1 in
     let a = start .args in
     let l = after-loop .loop in
-    let turn = found-turn (a .members .now) (a .index) (a .kind) (l .left) (l .last) (l .at) (after-loop-test .loop-test .taken) in
+    let turn = found-turn (a .members .now) (a .index) (a .kind) (l .left) (l .last) (l .at)
+    (after-loop-test .loop-test .taken) in
     (l .inv .0 ∙ rw (turn, member-is, ne-eqb _ _ (after-if1 .if1 .left)), search needs)
 
 slice-aggregate-result-4 : tie.Need-slice-aggregate-result-4 Inv-loop μ-loop
