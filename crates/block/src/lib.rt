@@ -464,11 +464,11 @@ fn walk_block(
     while pc < fault {
         match step_at(code, members, count, table, pc, fault, stack, height) {
             Step::Stops => {
-                clear(stack);
+                clear(&mut stack[..height]);
                 return Walk::Failed { count: completed };
             }
             Step::Lacks => {
-                clear(stack);
+                clear(&mut stack[..height]);
                 return Walk::NoRoom { at: pc };
             }
             Step::Passes => {
@@ -493,7 +493,7 @@ fn walk_block(
             count: completed,
         };
     }
-    clear(stack);
+    clear(&mut stack[..height]);
     Walk::Failed { count: completed }
 }
 

@@ -119,7 +119,8 @@ module _ (members : List ℕ) (count : ℕ) (before : List ℕ) where
           long = thrice-length table (3 * bucket) (r .at) (r .last) (r .left) ∙ so .long;
           filled = λ b l. filled-more b l (ltb b bucket) refl;
           kept = λ cell l.
-              thrice-behind table (3 * bucket) (r .at) (r .last) (r .left) cell (omega (arith, l)) ∙ so .kept cell (omega (arith, l));
+              thrice-behind table (3 * bucket) (r .at) (r .last) (r .left) cell (omega (arith, l))
+              ∙ so .kept cell (omega (arith, l));
           ahead = λ b l. ahead-at b (omega (arith, l));
         }
 

@@ -2,7 +2,9 @@
 -- Assumes nothing.
 use Prim.Native.Nat.{_+_, _-_, _^_, _<_}
 use native.Mathlib.Omega.{arith}
+use mathlib.Core.Path.{sym}
 use lib.ListN.{length}
+use lib.Seq.{length-take-le}
 use borrow.Author.Needs.{needs}
 use Rattle.basics.specs.Bytes.{AreBytes}
 use Rattle.block.proofs.Looping as looping
@@ -39,6 +41,12 @@ counted c =
 enum-told : tie.Need-enum-told Inv-loop μ-loop
 enum-told c = search needs
 
+slice-relend-prefix-clear : tie.Need-slice-relend-prefix-clear Inv-loop μ-loop
+slice-relend-prefix-clear c = omega (arith, c .before .before .before .before .before .before .before .loop .inv .1 .high)
+
+slice-aggregate-clear : tie.Need-slice-aggregate-clear Inv-loop μ-loop
+slice-aggregate-clear c = sym (length-take-le _ _ (slice-relend-prefix-clear (c .before)))
+
 clear-requires-2 : tie.Need-clear-requires-2 Inv-loop μ-loop
 clear-requires-2 c κs = search needs
 
@@ -53,11 +61,17 @@ returns c =
     let a = first .before .before .before .before .before .before .args in
     looping.ends-stopped (a .code .now) (a .members .now) (a .count) (a .leader) (a .fault) (a .stack .now) _
     (first .clear .ensures) (at .stack) (at .pc) (at .height) (at .completed) (at .inv)
-    (turn .before .before .loop-test .taken) _ _ (omega arith) (c .before .before .clear2 .ensures)
+    _ _ (c .before .before .clear2 .ensures) (turn .before .before .loop-test .taken)
     (rw (c .before .before .before .before .enum-told .given .1) at (turn .step-at .ensures))
 
 enum-told-2 : tie.Need-enum-told-2 Inv-loop μ-loop
 enum-told-2 c = search needs
+
+slice-relend-prefix-clear-2 : tie.Need-slice-relend-prefix-clear-2 Inv-loop μ-loop
+slice-relend-prefix-clear-2 c = omega (arith, c .before .before .before .before .before .before .before .loop .inv .1 .high)
+
+slice-aggregate-clear-2 : tie.Need-slice-aggregate-clear-2 Inv-loop μ-loop
+slice-aggregate-clear-2 c = sym (length-take-le _ _ (slice-relend-prefix-clear-2 (c .before)))
 
 clear-requires-3 : tie.Need-clear-requires-3 Inv-loop μ-loop
 clear-requires-3 c κs = search needs
@@ -73,7 +87,7 @@ returns-2 c =
     let a = first .before .before .before .before .before .before .args in
     looping.ends-lacked (a .code .now) (a .members .now) (a .count) (a .leader) (a .fault) (a .stack .now) _
     (first .clear .ensures) (at .stack) (at .pc) (at .height) (at .completed) (at .inv)
-    (turn .before .before .loop-test .taken) _ _ (omega arith) (c .before .before .clear3 .ensures)
+    _ _ (c .before .before .clear3 .ensures) (turn .before .before .loop-test .taken)
     (rw (c .before .before .before .before .enum-told2 .given .1) at (turn .step-at .ensures))
 
 enum-told-3 : tie.Need-enum-told-3 Inv-loop μ-loop
@@ -141,6 +155,12 @@ returns-4 c =
     looping.ends-done (a .code .now) (a .members .now) (a .count) (a .leader) (a .fault) (a .stack .now) _
     (first .clear .ensures) (at .stack) (at .pc) (at .height) (at .completed) (at .inv) (c .if1 .taken)
 
+slice-relend-prefix-clear-3 : tie.Need-slice-relend-prefix-clear-3 Inv-loop μ-loop
+slice-relend-prefix-clear-3 c = c .before .before .loop .inv .1 .high
+
+slice-aggregate-clear-3 : tie.Need-slice-aggregate-clear-3 Inv-loop μ-loop
+slice-aggregate-clear-3 c = sym (length-take-le _ _ (slice-relend-prefix-clear-3 (c .before)))
+
 clear-requires-5 : tie.Need-clear-requires-5 Inv-loop μ-loop
 clear-requires-5 c κs = search needs
 
@@ -167,10 +187,14 @@ walk-block-spec =
     loop-holds
     step-at-requires
     enum-told
+    slice-relend-prefix-clear
+    slice-aggregate-clear
     clear-requires-2
     same-length
     returns
     enum-told-2
+    slice-relend-prefix-clear-2
+    slice-aggregate-clear-2
     clear-requires-3
     same-length-2
     returns-2
@@ -185,6 +209,8 @@ walk-block-spec =
     loop-again
     same-length-4
     returns-4
+    slice-relend-prefix-clear-3
+    slice-aggregate-clear-3
     clear-requires-5
     same-length-5
     returns-5)
