@@ -78,6 +78,20 @@ module _ (c : List ℕ) (h : ℕ) (clean : Clean c h) where
       ∙ drop-append-add slots (replicate (length c - length slots) 0) j
       ∙ drop-replicate j (length c - length slots) ∙ ap (λ (k : ℕ). replicate k 0) left
 
+  rest-zero : drop h c ≡ replicate (length c - h) 0
+  rest-zero = ap (λ (k : ℕ). drop k c) plus ∙ zeros 0 ∙ ap (λ (k : ℕ). replicate (length c - k) 0) (sym plus)
+    where
+      plus : h ≡ h + 0
+      plus = omega arith
+
+  -- the slots cleared: all cells are zero
+  pub all-zero :
+      (cleared : List ℕ) → cleared ≡ replicate (length slots) 0 → cleared ++ drop h c ≡ replicate (length c) 0
+  all-zero cleared e =
+      let all : length slots + (length c - h) ≡ length c = omega (arith, high, clean .high) in
+      ap₂ (λ (a b : List ℕ). a ++ b) e rest-zero ∙ replicate-append-replicate (length slots) (length c - h) 0
+      ∙ ap (λ (k : ℕ). replicate k 0) all
+
   pub too-few : (pc takes : ℕ) (push : Push) → h < takes → Laid c Refused c (applied cells pc (does takes push) slots)
   too-few pc takes push fewer =
       let test : leb takes (length slots) ≡ false = ap (leb takes) high ∙ lt-leb takes h fewer in
@@ -109,19 +123,14 @@ module _ (c : List ℕ) (h : ℕ) (clean : Clean c h) where
       (takes gives : ℕ) → takes ≤ h → h - takes + gives ≤ length c →
       take (h - takes) c ++ (replicate takes 0 ++ drop h c) ≡ shown (length c) (take (h - takes) c ++ replicate gives 0)
   blank-shown takes gives l fits =
-      let none : drop h c ≡ replicate (length c - h) 0 =
-      ap (λ (k : ℕ). drop k c) plus ∙ zeros 0 ∙ ap (λ (k : ℕ). replicate (length c - k) 0) (sym plus) in
       let left : ℕ = length c - length (take (h - takes) c ++ replicate gives 0) in
       let all : takes + (length c - h) ≡ gives + left = omega (arith, blank-length takes gives, clean .high) in
       ap (λ (l : List ℕ). take (h - takes) c ++ l)
-      (ap (λ (l : List ℕ). replicate takes 0 ++ l) none
+      (ap (λ (l : List ℕ). replicate takes 0 ++ l) rest-zero
       ∙ replicate-append-replicate takes (length c - h) 0
       ∙ ap (λ (k : ℕ). replicate k 0) all
       ∙ sym (replicate-append-replicate gives left 0))
       ∙ sym (append-assoc (take (h - takes) c) (replicate gives 0) (replicate left 0))
-    where
-      plus : h ≡ h + 0
-      plus = omega arith
 
   -- ---- a cell on top
 

@@ -4,8 +4,8 @@ use Prim.Native.Nat.{ℕ, zero, suc, _+_, _-_, _≤_, _<_}
 use native.Mathlib.Nat.{zero-add}
 use native.Mathlib.Omega.{arith}
 use mathlib.Core.Path.{_≡_, refl, _∙_, sym, ap}
-use mathlib.Core.List.{List, []}
-use lib.ListN.{length, take, replicate, length-replicate}
+use mathlib.Core.List.{List, [], _++_}
+use lib.ListN.{length, take, drop, replicate, length-replicate}
 use lib.Seq.{length-take-le}
 use borrow.Author.Tests.{le-leb}
 use Rattle.basics.specs.Bytes.{AreBytes}
@@ -17,9 +17,9 @@ use Rattle.block.specs.declared.Step.{Step}
 use Rattle.block.specs.declared.Step.the-variants.{Stops, Lacks, Passes, Goes}
 use Rattle.block.specs.declared.Walk.{Walk}
 use Rattle.block.specs.declared.Walk.the-variants.{Done, Failed, NoRoom}
-use Rattle.block.proofs.Laying.{shown-take, shown-length, clean-shown}
+use Rattle.block.proofs.Laying.{shown-take, shown-length, clean-shown, all-zero}
 use Rattle.block.proofs.Walking.{onward, at, from, following, turn, ended-at, ended-past, stopped, lacked, passed}
-use Rattle.block.proofs.Walking.{went}
+use Rattle.block.proofs.Walking.{went, kept-stopped, kept-lacked}
 
 module _ (code members : List ℕ) (count leader fault : ℕ) where
   abbrev lookup : Lookup
@@ -101,67 +101,72 @@ module _ (code members : List ℕ) (count leader fault : ℕ) where
           moved room left list next high (completed + 1) (i .2 .0 - 1) left-is (w .2) (w .3) (omega (arith, i .2 .1, up))
           (omega (arith, i .2 .1, i .2 .2)) (rw (le-leb (length list) room (w .3)) at goes-on)
 
-  -- ---- the contract, where the loop ends. entry: the lent cells; cleared: these before the first turn
+  -- ---- the contract, where the loop ends. entry: the lent cells; first: these before the first turn
 
-  module _ (entry cleared : List ℕ) (zeros : cleared ≡ replicate (length entry) 0) where
+  module _ (entry first : List ℕ) (zeros : first ≡ replicate (length entry) 0) where
     abbrev Met : List ℕ → Walk → Type 0
     Met left answer = (answer ≡ answerOf (whole (length entry))) × (left ≡ cellsOf (length entry) (whole (length entry)))
 
-    same : length cleared ≡ length entry
+    same : length first ≡ length entry
     same = ap length zeros ∙ length-replicate (length entry) 0
 
     failed-so :
-        (left : List ℕ) (completed : ℕ) (reason : Reason) → whole (length cleared) ≡ fits (failed completed reason) →
+        (left : List ℕ) (completed : ℕ) (reason : Reason) → whole (length first) ≡ fits (failed completed reason) →
         left ≡ replicate (length entry) 0 → Met left (Failed completed)
     failed-so left completed reason e l = rw (ap whole (sym same) ∙ e) (refl, l)
 
-    emptied :
-        (left final : List ℕ) → length left ≡ length entry → final ≡ replicate (length left) 0 →
-        final ≡ replicate (length entry) 0
-    emptied left final size e = e ∙ ap (λ (k : ℕ). replicate k 0) size
-
-    module _ (stack : List ℕ) (pc height completed : ℕ) (i : Inv (length cleared) stack pc height completed) where
+    module _ (stack : List ℕ) (pc height completed : ℕ) (i : Inv (length first) stack pc height completed) where
       abbrev now : Outcome ℕ
-      now = here (length cleared) stack pc height completed i
+      now = here (length first) stack pc height completed i
 
-      -- left: the cells that the instruction leaves; final: these cleared
-      module _ (short : pc < fault) (left final : List ℕ) (size : length left ≡ length entry)
-          (none : final ≡ replicate (length left) 0) where
-        pub ends-stopped : Stepped stack Stops left now → Met final (Failed completed)
-        ends-stopped s =
-            let t = stopped lookup code fault (length cleared) (i .2 .0 - 1) pc completed now
-            (sized-so (length cleared) stack pc height completed i Stops (s .answers)) in
-            failed-so final completed (t .0) (sym (told (length cleared) stack pc height completed i short) ∙ t .1)
-            (emptied left final size none)
+      -- left: the cells that the instruction leaves; cleared: the first of them, those of its slots, cleared
+      module _ (left cleared : List ℕ) (none : cleared ≡ replicate (length (take height left)) 0) where
+        all-cleared : left ≡ stack → cleared ++ drop height left ≡ replicate (length entry) 0
+        all-cleared kept =
+            ap (λ (l : List ℕ). cleared ++ drop height l) kept
+            ∙ all-zero stack height (i .1) cleared (none ∙ ap (λ (l : List ℕ). replicate (length (take height l)) 0) kept)
+            ∙ ap (λ (k : ℕ). replicate k 0) (i .0 ∙ same)
 
-        pub ends-passed : Stepped stack Passes left now → Met final (Failed (completed + 1))
-        ends-passed s =
-            let t = passed lookup code fault (length cleared) (i .2 .0 - 1) pc completed now
-            (sized-so (length cleared) stack pc height completed i Passes (s .answers)) in
-            failed-so final (completed + 1) overshot (sym (told (length cleared) stack pc height completed i short) ∙ t)
-            (emptied left final size none)
+        pub ends-stopped :
+            pc < fault → Stepped stack Stops left now → Met (cleared ++ drop height left) (Failed completed)
+        ends-stopped short s =
+            let t = stopped lookup code fault (length first) (i .2 .0 - 1) pc completed now
+            (sized-so (length first) stack pc height completed i Stops (s .answers)) in
+            failed-so (cleared ++ drop height left) completed (t .0)
+            (sym (told (length first) stack pc height completed i short) ∙ t .1)
+            (all-cleared (kept-stopped stack left now s))
 
-        pub ends-lacked : Stepped stack Lacks left now → Met final (NoRoom pc)
-        ends-lacked s =
-            let t = lacked lookup code fault (length cleared) (i .2 .0 - 1) pc completed now
-            (sized-so (length cleared) stack pc height completed i Lacks (s .answers)) in
-            rw (ap whole (sym same) ∙ sym (told (length cleared) stack pc height completed i short) ∙ t)
-            (refl, emptied left final size none)
+        pub ends-lacked : pc < fault → Stepped stack Lacks left now → Met (cleared ++ drop height left) (NoRoom pc)
+        ends-lacked short s =
+            let t = lacked lookup code fault (length first) (i .2 .0 - 1) pc completed now
+            (sized-so (length first) stack pc height completed i Lacks (s .answers)) in
+            rw (ap whole (sym same) ∙ sym (told (length first) stack pc height completed i short) ∙ t)
+            (refl, all-cleared (kept-lacked stack left now s))
 
       pub ends-past :
-          fault ≤ pc → (pc ≡ fault → ⊥) → (final : List ℕ) → final ≡ replicate (length stack) 0 →
-          Met final (Failed completed)
-      ends-past l e final none =
-          failed-so final completed overshot
-          (sym (i .2 .3) ∙ ended-past lookup code fault (length cleared) (i .2 .0) pc completed (take height stack) l e)
-          (emptied stack final (i .0 ∙ same) none)
+          fault ≤ pc → (pc ≡ fault → ⊥) → (cleared : List ℕ) → cleared ≡ replicate (length (take height stack)) 0 →
+          Met (cleared ++ drop height stack) (Failed completed)
+      ends-past l e cleared none =
+          failed-so (cleared ++ drop height stack) completed overshot
+          (sym (i .2 .3) ∙ ended-past lookup code fault (length first) (i .2 .0) pc completed (take height stack) l e)
+          (all-cleared stack cleared none refl)
+
+      -- the height after an instruction that passes the fault is not told: all cells are cleared
+      pub ends-passed :
+          pc < fault → (left final : List ℕ) → length left ≡ length entry → final ≡ replicate (length left) 0 →
+          Stepped stack Passes left now → Met final (Failed (completed + 1))
+      ends-passed short left final size none s =
+          let t = passed lookup code fault (length first) (i .2 .0 - 1) pc completed now
+          (sized-so (length first) stack pc height completed i Passes (s .answers)) in
+          failed-so final (completed + 1) overshot (sym (told (length first) stack pc height completed i short) ∙ t)
+          (none ∙ ap (λ (k : ℕ). replicate k 0) size)
 
       pub ends-done : pc ≡ fault → Met stack (Done height completed)
       ends-done e =
           let high : length (take height stack) ≡ height = length-take-le height stack (i .1 .high) in
           rw
           (ap whole (sym same) ∙ sym (i .2 .3)
-          ∙ ended-at lookup code fault (length cleared) (i .2 .0) pc completed (take height stack) e) (
+          ∙ ended-at lookup code fault (length first) (i .2 .0) pc completed (take height stack) e) (
             ap (λ (k : ℕ). Done k completed) (sym high),
             i .1 .zeros ∙ ap (λ (k : ℕ). shown k (take height stack)) (i .0 ∙ same),
           )

@@ -15,8 +15,8 @@ use Rattle.jvms.specs.Format.{formatOf}
 use Rattle.bytecode.specs.Length.{fixedLength}
 use Rattle.effects.specs.Lookup.{Lookup}
 use Rattle.effects.specs.Rows.{Row, unmodelled, opaque, aload, aloadOf, carries, keeps, gets, calls, rowOf}
-use Rattle.block.specs.Cells.{stepOf}
-use Rattle.block.specs.Room.{completing, completedFrom, Roomed, lacks, fits, judged}
+use Rattle.block.specs.Cells.{stepOf, Stepped}
+use Rattle.block.specs.Room.{completing, completedFrom, Roomed, lacks, fits, judged, shown}
 use Rattle.block.specs.Walk.{Reason, pastEnd, notModelled, overshot, cells, effectBy, Made, refused, made, applied}
 use Rattle.block.specs.Walk.{Outcome, stops, goes, passes, landed, done, failed, step, after, walkFrom}
 use Rattle.block.specs.declared.Step.{Step}
@@ -91,6 +91,28 @@ module _ (lookup : Lookup) (code : List ℕ) (fault pc : ℕ) (slots : List ℕ)
 no-stops : {P : Type 0} (b : Bool) (other : Step) → (Stops ≡ other → _≡_ {A = ℕ} 0 1) → Stops ≡ pick b other Lacks → P
 no-stops true other never e = let z = never e in absurd (omega arith)
 no-stops false other never e = let z : _≡_ {A = ℕ} 0 1 = cc in absurd (omega arith)
+
+-- an instruction that stops, or lacks room, leaves the cells as they were
+module _ (stack left : List ℕ) where
+  pub kept-stopped : (x : Outcome ℕ) → Stepped stack Stops left x → left ≡ stack
+  kept-stopped (stops reason) s = s .leaves
+  kept-stopped (goes next list) s =
+      no-stops (leb (length list) (length stack)) (Goes next (length list)) (λ z. cc) (s .answers)
+  kept-stopped (passes list) s = no-stops (leb (length list) (length stack)) Passes (λ z. cc) (s .answers)
+
+  kept-unless :
+      (b : Bool) (other : Step) (list : List ℕ) → (Lacks ≡ other → _≡_ {A = ℕ} 0 1) → Lacks ≡ pick b other Lacks →
+      left ≡ pick b list stack → left ≡ stack
+  kept-unless true other list never e l = let z = never e in absurd (omega arith)
+  kept-unless false other list never e l = l
+
+  pub kept-lacked : (x : Outcome ℕ) → Stepped stack Lacks left x → left ≡ stack
+  kept-lacked (stops reason) s = s .leaves
+  kept-lacked (goes next list) s =
+      kept-unless (leb (length list) (length stack)) (Goes next (length list)) (shown (length stack) list) (λ z. cc)
+      (s .answers) (s .leaves)
+  kept-lacked (passes list) s =
+      kept-unless (leb (length list) (length stack)) Passes (shown (length stack) list) (λ z. cc) (s .answers) (s .leaves)
 
 module _ (lookup : Lookup) (code : List ℕ) (fault room : ℕ) where
   abbrev pub at : ℕ → List ℕ → Outcome ℕ

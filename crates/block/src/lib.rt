@@ -9,6 +9,7 @@ ghost use lib.Dec.{leb};
 ghost use lib.ListN.{length, take, replicate};
 ghost use Rattle.basics.specs.Bytes.{byteAt};
 ghost use Rattle.basics.specs.Choice.{pick};
+ghost use Rattle.index.specs.Index.{Indexed};
 ghost use Rattle.effects.specs.Lookup.{lookupIn};
 ghost use Rattle.effects.specs.Rows.{rowOf, aload as aloadRow, gets as getsRow, calls as callsRow};
 ghost use Rattle.block.specs.Cells.{packed, unpacked, dupPlaces, dup2Places, swapPlaces, rowFrom, effectFrom, bare};
@@ -16,6 +17,11 @@ ghost use Rattle.block.specs.Cells.{Clean, Laid, Stepped};
 ghost use Rattle.block.specs.Room.{blockWalk, answerOf, cellsOf};
 ghost use Rattle.block.specs.Walk.{cells, blanks, load as loadPush, carried, does, effectBy, applied, step as stepAt};
 ghost use Rattle.block.specs.declared.Step.the-variants.{Goes, Passes};
+
+// So many members that a walk makes a table of them.
+const MANY: usize = 128;
+// The cells of the table: 512 buckets hold every pool index that an instruction can cite.
+const CELLS: usize = 1536;
 
 // What a walk answers.
 pub enum Walk {
@@ -190,15 +196,23 @@ fn load_effect(code: &[u8], pc: usize) -> Effect
 }
 
 // The effect of reading the field that the instruction at pc cites.
-fn get_effect(code: &[u8], members: &[u8], count: usize, pc: usize, takes: usize) -> Effect
+fn get_effect(
+    code: &[u8],
+    members: &[u8],
+    count: usize,
+    table: &[usize],
+    pc: usize,
+    takes: usize,
+) -> Effect
     requires { ⌜ pc < length (now code) ⌝ }
+    requires { ⌜ Indexed (now members) count (now table) ⌝ }
     ensures { λ r. ⌜ effectFrom r
         ≡ bare (effectBy (lookupIn (now (members .entry)) count) (now (code .entry)) pc (getsRow takes)) ⌝ }
 {
     if code.len() - pc < 3 {
         return Effect::Fails;
     }
-    let texts = casefile::find_member(members, count, bytecode::read_u16(code, pc + 1), 0);
+    let texts = index::find_indexed(members, count, table, bytecode::read_u16(code, pc + 1), 0);
     if texts.len() == 0 {
         return Effect::Fails;
     }
@@ -210,15 +224,23 @@ fn get_effect(code: &[u8], members: &[u8], count: usize, pc: usize, takes: usize
 }
 
 // The effect of calling the method that the instruction at pc cites.
-fn call_effect(code: &[u8], members: &[u8], count: usize, pc: usize, takes: usize) -> Effect
+fn call_effect(
+    code: &[u8],
+    members: &[u8],
+    count: usize,
+    table: &[usize],
+    pc: usize,
+    takes: usize,
+) -> Effect
     requires { ⌜ pc < length (now code) ⌝ }
+    requires { ⌜ Indexed (now members) count (now table) ⌝ }
     ensures { λ r. ⌜ effectFrom r
         ≡ bare (effectBy (lookupIn (now (members .entry)) count) (now (code .entry)) pc (callsRow takes)) ⌝ }
 {
     if code.len() - pc < 3 {
         return Effect::Fails;
     }
-    let texts = casefile::find_member(members, count, bytecode::read_u16(code, pc + 1), 1);
+    let texts = index::find_indexed(members, count, table, bytecode::read_u16(code, pc + 1), 1);
     if texts.len() == 0 {
         return Effect::Fails;
     }
@@ -237,8 +259,9 @@ fn call_effect(code: &[u8], members: &[u8], count: usize, pc: usize, takes: usiz
 }
 
 // The effect of the instruction at pc.
-fn effect_at(code: &[u8], members: &[u8], count: usize, pc: usize) -> Effect
+fn effect_at(code: &[u8], members: &[u8], count: usize, table: &[usize], pc: usize) -> Effect
     requires { ⌜ pc < length (now code) ⌝ }
+    requires { ⌜ Indexed (now members) count (now table) ⌝ }
     ensures { λ r. ⌜ effectFrom r
         ≡ bare (effectBy (lookupIn (now (members .entry)) count) (now (code .entry)) pc
         (rowOf (byteAt (now (code .entry)) pc))) ⌝ }
@@ -260,8 +283,8 @@ fn effect_at(code: &[u8], members: &[u8], count: usize, pc: usize) -> Effect
             args: 0,
             gives: 0,
         },
-        Row::Gets { takes } => get_effect(code, members, count, pc, takes),
-        Row::Calls { takes } => call_effect(code, members, count, pc, takes),
+        Row::Gets { takes } => get_effect(code, members, count, table, pc, takes),
+        Row::Calls { takes } => call_effect(code, members, count, table, pc, takes),
     }
 }
 
@@ -393,11 +416,13 @@ fn step_at(
     code: &[u8],
     members: &[u8],
     count: usize,
+    table: &[usize],
     pc: usize,
     fault: usize,
     stack: &mut [u64],
     height: usize,
 ) -> Step
+    requires { ⌜ Indexed (now members) count (now table) ⌝ }
     requires { ⌜ Clean (now stack) height ⌝ }
     requires { ⌜ pc < fault ⌝ }
     ensures { λ r. ⌜ Stepped (now (stack .entry)) r (now (stack .exit))
@@ -407,7 +432,7 @@ fn step_at(
     if code.len() <= pc {
         return Step::Stops;
     }
-    let effect = effect_at(code, members, count, pc);
+    let effect = effect_at(code, members, count, table, pc);
     let size = bytecode::fixed_length(code[pc]) as usize;
     match apply(stack, height, pc, effect) {
         Height::Refused => Step::Stops,
@@ -416,15 +441,17 @@ fn step_at(
     }
 }
 
-// Walks from the leader to the fault, over the lent stack.
-pub fn simulate_block(
+// Walks from the leader to the fault, over the lent stack, by a table of the members.
+fn walk_block(
     code: &[u8],
     members: &[u8],
     count: usize,
+    table: &[usize],
     leader: usize,
     fault: usize,
     stack: &mut [u64],
 ) -> Walk
+    requires { ⌜ Indexed (now members) count (now table) ⌝ }
     ensures answers { λ r. ⌜ r ≡ answerOf
         (blockWalk (now (code .entry)) (now (members .entry)) count leader fault (length (now (stack .entry)))) ⌝ }
     ensures leaves { λ r. ⌜ now (stack .exit) ≡ cellsOf (length (now (stack .entry)))
@@ -435,13 +462,13 @@ pub fn simulate_block(
     let mut height: usize = 0;
     let mut completed: usize = 0;
     while pc < fault {
-        match step_at(code, members, count, pc, fault, stack, height) {
+        match step_at(code, members, count, table, pc, fault, stack, height) {
             Step::Stops => {
-                clear(stack);
+                clear(&mut stack[..height]);
                 return Walk::Failed { count: completed };
             }
             Step::Lacks => {
-                clear(stack);
+                clear(&mut stack[..height]);
                 return Walk::NoRoom { at: pc };
             }
             Step::Passes => {
@@ -466,6 +493,46 @@ pub fn simulate_block(
             count: completed,
         };
     }
-    clear(stack);
+    clear(&mut stack[..height]);
     Walk::Failed { count: completed }
+}
+
+// The same, by a table that is made for this walk.
+fn walk_indexed(
+    code: &[u8],
+    members: &[u8],
+    count: usize,
+    leader: usize,
+    fault: usize,
+    stack: &mut [u64],
+) -> Walk
+    ensures answers { λ r. ⌜ r ≡ answerOf
+        (blockWalk (now (code .entry)) (now (members .entry)) count leader fault (length (now (stack .entry)))) ⌝ }
+    ensures leaves { λ r. ⌜ now (stack .exit) ≡ cellsOf (length (now (stack .entry)))
+        (blockWalk (now (code .entry)) (now (members .entry)) count leader fault (length (now (stack .entry)))) ⌝ }
+{
+    let mut table = [0usize; CELLS];
+    index::index_members(members, count, &mut table);
+    walk_block(code, members, count, &table, leader, fault, stack)
+}
+
+// Walks from the leader to the fault, over the lent stack. Among few members a lookup needs no table.
+pub fn simulate_block(
+    code: &[u8],
+    members: &[u8],
+    count: usize,
+    leader: usize,
+    fault: usize,
+    stack: &mut [u64],
+) -> Walk
+    ensures answers { λ r. ⌜ r ≡ answerOf
+        (blockWalk (now (code .entry)) (now (members .entry)) count leader fault (length (now (stack .entry)))) ⌝ }
+    ensures leaves { λ r. ⌜ now (stack .exit) ≡ cellsOf (length (now (stack .entry)))
+        (blockWalk (now (code .entry)) (now (members .entry)) count leader fault (length (now (stack .entry)))) ⌝ }
+{
+    if count < MANY {
+        let none = [0usize; 1];
+        return walk_block(code, members, count, &none, leader, fault, stack);
+    }
+    walk_indexed(code, members, count, leader, fault, stack)
 }

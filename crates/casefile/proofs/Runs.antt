@@ -1,18 +1,23 @@
 -- A run of members or of local records, one of them at a time.
 -- Assumes nothing.
-use Prim.Native.Nat.{ℕ, zero, suc, _+_, _-_, _<_}
+use Prim.Native.Nat.{ℕ, zero, suc, _+_, _-_, _≤_, _<_}
+use native.Mathlib.Omega.{arith}
 use native.Mathlib.Nat.{not-suc-le-zero}
 use native.Mathlib.Numerals.{sub-one}
-use mathlib.Core.Path.{_≡_, refl, sym}
+use mathlib.Core.Path.{_≡_, refl}
 use mathlib.Core.Bool.{Bool, true, false}
 use mathlib.Core.List.{List, [], _∷_}
 use lib.Dec.{eqb, ltb, leb}
+use borrow.Author.Tests.{ne-eqb, ltb-true}
 use Rattle.basics.specs.Choice.{pick}
-use Rattle.casefile.specs.Number.{greatest, numberAt}
+use Rattle.casefile.specs.Number.{greatest, numberAt, thenNumber}
 use Rattle.casefile.specs.Text.{textAt, thenText}
 use Rattle.casefile.specs.Layout.{Layout, text, threeTexts, memberThen, membersThen, recordThen, recordsThen, ended, runBy, thenRun}
 use Rattle.casefile.specs.LocalRecord.{recordAt, thenRecord, recordsIn}
 use Rattle.casefile.specs.Member.{memberAt, thenMember, textsOf, memberFound}
+use Rattle.casefile.specs.declared.Member.{Member}
+use Rattle.casefile.specs.declared.Member.the-variants as members
+use Rattle.casefile.specs.declared.MemberPlace.{MemberPlace}
 use Rattle.casefile.specs.declared.Number.{Number}
 use Rattle.casefile.specs.declared.Number.the-variants.{Value, NotNumber}
 use Rattle.casefile.specs.declared.Run.{Run}
@@ -165,3 +170,72 @@ pub listed-turn :
 unfolding recordsIn
 listed-turn bytes zero at some = absurd (not-suc-le-zero some)
 listed-turn bytes (suc left) at some = simp sub-one
+
+-- ---- indexes rise
+
+abbrev pub Above : ℕ → Member → Type 0
+Above last (members.Read place) = last < place .index
+Above last (members.Wrong place) = Unit {0}
+
+pub member-above : (bytes : List ℕ) (last at : ℕ) → Above last (memberAt bytes last at)
+unfolding memberAt
+member-above bytes last at = by-index (numberAt greatest bytes at)
+  where
+    texted : ℕ → ℕ → ℕ → Run → Member
+    texted index kind texts r =
+        thenRun r (λ place. members.Wrong place) (λ next.
+        members.Read (record { index = index; kind = kind; texts = texts; next = next }))
+
+    kinded : ℕ → ℕ → Number → Member
+    kinded index kindAt n =
+        thenNumber n (members.Wrong kindAt) (λ kind texts.
+        pick (leb kind 1) (texted index kind texts (runBy (threeTexts ended) bytes texts)) (members.Wrong kindAt))
+
+    by-texts : (index kind texts : ℕ) → last < index → (r : Run) → Above last (texted index kind texts r)
+    by-texts index kind texts above (End next) = above
+    by-texts index kind texts above (Wrong place) = tt
+
+    by-kind-rule :
+        (index kindAt kind texts : ℕ) → last < index → (t : Bool) →
+        Above last (pick t (texted index kind texts (runBy (threeTexts ended) bytes texts)) (members.Wrong kindAt))
+    by-kind-rule index kindAt kind texts above true = by-texts index kind texts above (runBy (threeTexts ended) bytes texts)
+    by-kind-rule index kindAt kind texts above false = tt
+
+    by-kind : (index kindAt : ℕ) → last < index → (n : Number) → Above last (kinded index kindAt n)
+    by-kind index kindAt above (Value kind texts) = by-kind-rule index kindAt kind texts above (leb kind 1)
+    by-kind index kindAt above NotNumber = tt
+
+    by-index-rule :
+        (index kindAt : ℕ) (t : Bool) → ltb last index ≡ t →
+        Above last (pick t (kinded index kindAt (numberAt greatest bytes kindAt)) (members.Wrong at))
+    by-index-rule index kindAt true e = by-kind index kindAt (ltb-true last index e) (numberAt greatest bytes kindAt)
+    by-index-rule index kindAt false e = tt
+
+    by-index :
+        (n : Number) →
+        Above last
+        (thenNumber n (members.Wrong at) (λ index kindAt.
+        pick (ltb last index) (kinded index kindAt (numberAt greatest bytes kindAt)) (members.Wrong at)))
+    by-index (Value index kindAt) = by-index-rule index kindAt (ltb last index) refl
+    by-index NotNumber = tt
+
+-- at or below the last index none is found
+pub found-none :
+    (bytes : List ℕ) (index kind left last at : ℕ) → index ≤ last → memberFound bytes index kind left last at ≡ []
+unfolding memberFound
+found-none bytes index kind zero last at below = refl
+found-none bytes index kind (suc left) last at below =
+    by-member (memberAt bytes last at) (member-above bytes last at)
+    (λ place small. found-none bytes index kind left (place .index) (place .next) small)
+  where
+    by-member :
+        (m : Member) → Above last m →
+        ((place : MemberPlace) → index ≤ place .index → memberFound bytes index kind left (place .index) (place .next) ≡ []) →
+        thenMember m (λ wrong. []) (λ place.
+        pick (eqb (place .index) index) (pick (eqb (place .kind) kind) (textsOf bytes place) [])
+        (memberFound bytes index kind left (place .index) (place .next)))
+        ≡ []
+    by-member (members.Read place) above rest =
+        let other : place .index ≡ index → ⊥ = λ e. omega (arith, e) in
+        rw (ne-eqb (place .index) index other) (rest place (omega arith))
+    by-member (members.Wrong place) above rest = refl

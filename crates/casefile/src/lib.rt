@@ -171,7 +171,7 @@ fn read_texts(bytes: &[u8], at: usize) -> Run
 }
 
 // The member at a place, whose pool index has to be above the last one.
-fn read_member(bytes: &[u8], at: usize, last: usize) -> Member
+pub fn read_member(bytes: &[u8], at: usize, last: usize) -> Member
     ensures { λ r. ⌜ (r ≡ memberAt (now (bytes .entry)) last at) × memberWithin (length (now (bytes .entry))) at r ⌝ }
 {
     let Number::Value(index, kind_at) = read_number(bytes, at, GREATEST) else {
@@ -357,13 +357,21 @@ pub fn part_at<'a>(bytes: &'a [u8], start: usize, size: usize) -> &'a [u8]
     &bytes[start..end]
 }
 
-// The part of a member run that holds the three texts of the member with a pool index and kind. It is empty where there
-// is no such member: a member of the other kind at the index is missing too, and so is one that can't be read.
-pub fn find_member<'a>(members: &'a [u8], count: usize, index: usize, kind: usize) -> &'a [u8]
-    ensures { λ r. ⌜ now r ≡ memberFound (now (members .entry)) index kind count 0 0 ⌝ }
+// The part of a member run that holds the three texts of the member with a pool index and kind, among so many members from
+// a place on, whose indexes are above another. It is empty where there is no such member: a member of the other kind at the
+// index is missing too, and so is one that can't be read. Indexes rise, so a greater one ends the search.
+pub fn find_from<'a>(
+    members: &'a [u8],
+    from: usize,
+    above: usize,
+    count: usize,
+    index: usize,
+    kind: usize,
+) -> &'a [u8]
+    ensures { λ r. ⌜ now r ≡ memberFound (now (members .entry)) index kind count above from ⌝ }
 {
-    let mut at = 0;
-    let mut last = 0;
+    let mut at = from;
+    let mut last = above;
     let mut left = count;
     while 0 < left {
         let Member::Read(member) = read_member(members, at, last) else {
@@ -377,11 +385,21 @@ pub fn find_member<'a>(members: &'a [u8], count: usize, index: usize, kind: usiz
             }
             return &members[..0];
         }
+        if index < member.index {
+            return &members[..0];
+        }
         at = member.next;
         last = member.index;
         left -= 1;
     }
     &members[..0]
+}
+
+// The same among all members of a run.
+pub fn find_member<'a>(members: &'a [u8], count: usize, index: usize, kind: usize) -> &'a [u8]
+    ensures { λ r. ⌜ now r ≡ memberFound (now (members .entry)) index kind count 0 0 ⌝ }
+{
+    find_from(members, 0, 0, count, index, kind)
 }
 
 // The bytes of the text at a place, none where there is no text.

@@ -1,13 +1,13 @@
 -- What the walk's answer and its cells tell of the trace.
 -- Assumes nothing.
-use Prim.Native.Nat.{ℕ, _-_, _≤_, _<_}
+use Prim.Native.Nat.{ℕ, _+_, _-_, _≤_, _<_}
 use native.Mathlib.Omega.{arith}
 use mathlib.Core.Bool.{Bool, true, false}
-use mathlib.Core.List.{List}
-use mathlib.Core.Path.{_≡_, refl, _∙_, sym, ap}
+use mathlib.Core.List.{List, _++_}
+use mathlib.Core.Path.{_≡_, refl, _∙_, sym, ap, ap₂}
 use lib.Dec.{ltb}
-use lib.ListN.{length, getD, take, replicate, length-append}
-use lib.Seq.{getD-take, take-at}
+use lib.ListN.{length, getD, take, drop, replicate, length-append, replicate-append-replicate}
+use lib.Seq.{getD-take, take-at, drop-at, length-take-le}
 use borrow.Author.Tests.{ltb-true}
 use Rattle.basics.specs.Choice.{pick}
 use Rattle.block.specs.Cells.{unpacked}
@@ -88,3 +88,16 @@ module _ (scan depth room : ℕ) where
         (cause : Slot) → cause ≡ pick (ltb depth height) (unpacked (getD left (height - 1 - depth) 0)) Other →
         Traced scan block cause ≡ traceOf scan depth walked
     traces cause e = rw (f .walked-so) (ap (Traced scan block) (e ∙ cause-is))
+
+    -- the first cells cleared, as many as there are slots
+    pub emptied :
+        length left ≡ room → (cleared : List ℕ) → cleared ≡ replicate (length (take height left)) 0 →
+        cleared ++ drop height left ≡ replicate room 0
+    emptied size cleared e =
+        let behind : ℕ = room - length (f .slots) in
+        let few : length (take height left) ≡ height = length-take-le height left reaches in
+        let rest : drop height left ≡ replicate behind 0 =
+        ap (drop height) left-is ∙ drop-at (f .slots) (replicate behind 0) height (sym (f .high)) in
+        let all : height + behind ≡ room = omega (arith, f .high, reaches, size) in
+        ap₂ (λ (x y : List ℕ). x ++ y) (e ∙ ap (λ (k : ℕ). replicate k 0) few) rest
+        ∙ replicate-append-replicate height behind 0 ∙ ap (λ (k : ℕ). replicate k 0) all

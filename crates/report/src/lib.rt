@@ -92,7 +92,7 @@ fn trace_block(
             count: block,
         } => {
             let cause = slot_from(stack, height, depth);
-            clear(stack);
+            clear(&mut stack[..height]);
             Trace::Traced { scan, block, cause }
         }
     }

@@ -14,7 +14,7 @@ sub-if1 c = search needs
 
 returns : tie.Need-returns
 returns c =
-    let a = c .before .before .before .args in
+    let a = c .before .before .before .before .args in
     laws.call-cut (a .code .now) (a .pc) (lookupIn (a .members .now) (a .count)) (a .takes) (omega arith)
 
 add-read-u16 : tie.Need-add-read-u16
@@ -23,15 +23,16 @@ add-read-u16 c = search needs
 read-u16-requires : tie.Need-read-u16-requires
 read-u16-requires c κs = search needs
 
-find-member-requires : tie.Need-find-member-requires
-find-member-requires c κs = search needs
+find-indexed-requires : tie.Need-find-indexed-requires
+find-indexed-requires c κs = search needs
 
 returns-2 : tie.Need-returns-2
 returns-2 c =
     let found = c .before in
-    let a = found .before .before .before .before .before .args in
+    let start = found .before .before .before .before .before .before in
+    let a = start .args in
     laws.call-missing (a .code .now) (a .pc) (a .members .now) (a .count) (a .takes) _ _ (omega arith)
-    (found .before .read-u16 .ensures .0) (found .find-member .ensures) (c .if2 .taken)
+    (found .before .read-u16 .ensures .0) (found .find-indexed .ensures .1 (start .pre .1)) (c .if2 .taken)
 
 descriptor-of-requires : tie.Need-descriptor-of-requires
 descriptor-of-requires c κs = search needs
@@ -50,9 +51,10 @@ returns-3 c =
     let list = c .before .before in
     let part = list .before in
     let found = part .before .before in
-    let a = found .before .before .before .before .before .args in
+    let start = found .before .before .before .before .before .before in
+    let a = start .args in
     laws.call-unread (a .code .now) (a .pc) (a .members .now) (a .count) (a .takes) _ _ (omega arith)
-    (found .before .read-u16 .ensures .0) (found .find-member .ensures) (part .before .if2 .left)
+    (found .before .read-u16 .ensures .0) (found .find-indexed .ensures .1 (start .pre .1)) (part .before .if2 .left)
     (ap parameters (sym (part .descriptor-of .ensures)) ∙ sym (list .parse-method-params .ensures) ∙ c .enum-told .given .1)
 
 return-type-slots-requires : tie.Need-return-type-slots-requires
@@ -70,9 +72,10 @@ returns-4 c =
     let list = result .before .before .before .before in
     let part = list .before in
     let found = part .before .before in
-    let a = found .before .before .before .before .before .args in
+    let start = found .before .before .before .before .before .before in
+    let a = start .args in
     laws.call-endless (a .code .now) (a .pc) (a .members .now) (a .count) (a .takes) _ _ (omega arith)
-    (found .before .read-u16 .ensures .0) (found .find-member .ensures) (part .before .if2 .left) _ _
+    (found .before .read-u16 .ensures .0) (found .find-indexed .ensures .1 (start .pre .1)) (part .before .if2 .left) _ _
     (ap parameters (sym (part .descriptor-of .ensures)) ∙ sym (list .parse-method-params .ensures)
     ∙ result .before .before .args2 .given .1)
     (ap returnSlots (sym (part .descriptor-of .ensures)) ∙ sym (result .return-type-slots .ensures)
@@ -84,9 +87,10 @@ returns-5 c =
     let list = result .before .before .before .before in
     let part = list .before in
     let found = part .before .before in
-    let a = found .before .before .before .before .before .args in
+    let start = found .before .before .before .before .before .before in
+    let a = start .args in
     laws.called (a .code .now) (a .pc) (a .members .now) (a .count) (a .takes) _ _ (omega arith)
-    (found .before .read-u16 .ensures .0) (found .find-member .ensures) (part .before .if2 .left) _ _ _
+    (found .before .read-u16 .ensures .0) (found .find-indexed .ensures .1 (start .pre .1)) (part .before .if2 .left) _ _ _
     (ap parameters (sym (part .descriptor-of .ensures)) ∙ sym (list .parse-method-params .ensures)
     ∙ result .before .before .args2 .given .1)
     (ap returnSlots (sym (part .descriptor-of .ensures)) ∙ sym (result .return-type-slots .ensures)
@@ -100,7 +104,7 @@ call-effect-spec =
     returns
     add-read-u16
     read-u16-requires
-    find-member-requires
+    find-indexed-requires
     returns-2
     descriptor-of-requires
     parse-method-params-requires

@@ -58,70 +58,70 @@ call-effect-requires c κs = search needs
 returns : tie.Need-returns
 returns c =
     let at = c .before .before in
-    let a = at .before .before .before .before .args in
+    let a = at .before .before .before .before .before .args in
     of-row (a .code .now) (a .pc) (lookupIn (a .members .now) (a .count)) _ _ _ (at .row-of .ensures)
     (c .enum-told .given .1) refl
 
 returns-2 : tie.Need-returns-2
 returns-2 c =
     let at = c .before .before .before in
-    let a = at .before .before .before .before .args in
+    let a = at .before .before .before .before .before .args in
     of-row (a .code .now) (a .pc) (lookupIn (a .members .now) (a .count)) _ _ _ (at .row-of .ensures)
     (c .before .takes .given .1) (ap (λ (x : ℕ). does x (blanks (c .before .takes .given .0 .1 .0))) (add-zero _))
 
 returns-3 : tie.Need-returns-3
 returns-3 c =
     let at = c .before .before .before in
-    let a = at .before .before .before .before .args in
+    let a = at .before .before .before .before .before .args in
     of-row (a .code .now) (a .pc) (lookupIn (a .members .now) (a .count)) _ _ _ (at .row-of .ensures)
     (c .before .enum-told2 .given .1) (c .load-effect .ensures)
 
 returns-4 : tie.Need-returns-4
 returns-4 c =
     let at = c .before .before .before in
-    let a = at .before .before .before .before .args in
+    let a = at .before .before .before .before .before .args in
     of-row (a .code .now) (a .pc) (lookupIn (a .members .now) (a .count)) _ _ _ (at .row-of .ensures)
     (c .before .local .given .1) refl
 
 returns-5 : tie.Need-returns-5
 returns-5 c =
     let at = c .before .before in
-    let a = at .before .before .before .before .args in
+    let a = at .before .before .before .before .before .args in
     of-row (a .code .now) (a .pc) (lookupIn (a .members .now) (a .count)) _ _ _ (at .row-of .ensures)
     (c .enum-told3 .given .1) refl
 
 returns-6 : tie.Need-returns-6
 returns-6 c =
     let at = c .before .before in
-    let a = at .before .before .before .before .args in
+    let a = at .before .before .before .before .before .args in
     of-row (a .code .now) (a .pc) (lookupIn (a .members .now) (a .count)) _ _ _ (at .row-of .ensures)
     (c .enum-told4 .given .1) refl
 
 returns-7 : tie.Need-returns-7
 returns-7 c =
     let at = c .before .before in
-    let a = at .before .before .before .before .args in
+    let a = at .before .before .before .before .before .args in
     of-row (a .code .now) (a .pc) (lookupIn (a .members .now) (a .count)) _ _ _ (at .row-of .ensures)
     (c .enum-told5 .given .1) refl
 
 returns-8 : tie.Need-returns-8
 returns-8 c =
     let at = c .before .before in
-    let a = at .before .before .before .before .args in
+    let a = at .before .before .before .before .before .args in
     of-row (a .code .now) (a .pc) (lookupIn (a .members .now) (a .count)) _ _ _ (at .row-of .ensures)
     (c .enum-told6 .given .1) refl
 
 returns-9 : tie.Need-returns-9
 returns-9 c =
     let at = c .before .before .before .before in
-    let a = at .before .before .before .before .args in
+    let a = at .before .before .before .before .before .args in
     of-row (a .code .now) (a .pc) (lookupIn (a .members .now) (a .count)) _ _ _ (at .row-of .ensures)
     (c .before .before .takes2 .given .1) (c .get-effect .ensures)
 
 returns-10 : tie.Need-returns-10
 returns-10 c =
     let at = c .before .before .before .before in
-    let a = at .before .before .before .before .args in
+    let a = at .before .before .before .before .before .args in
     of-row (a .code .now) (a .pc) (lookupIn (a .members .now) (a .count)) _ _ _ (at .row-of .ensures)
     (c .before .before .takes3 .given .1) (c .call-effect .ensures)
 

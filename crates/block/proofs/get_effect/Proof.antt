@@ -14,7 +14,7 @@ sub-if1 c = search needs
 
 returns : tie.Need-returns
 returns c =
-    let a = c .before .before .before .args in
+    let a = c .before .before .before .before .args in
     laws.get-cut (a .code .now) (a .pc) (lookupIn (a .members .now) (a .count)) (a .takes) (omega arith)
 
 add-read-u16 : tie.Need-add-read-u16
@@ -23,15 +23,16 @@ add-read-u16 c = search needs
 read-u16-requires : tie.Need-read-u16-requires
 read-u16-requires c κs = search needs
 
-find-member-requires : tie.Need-find-member-requires
-find-member-requires c κs = search needs
+find-indexed-requires : tie.Need-find-indexed-requires
+find-indexed-requires c κs = search needs
 
 returns-2 : tie.Need-returns-2
 returns-2 c =
     let found = c .before in
-    let a = found .before .before .before .before .before .args in
+    let start = found .before .before .before .before .before .before in
+    let a = start .args in
     laws.get-missing (a .code .now) (a .pc) (a .members .now) (a .count) (a .takes) _ _ (omega arith)
-    (found .before .read-u16 .ensures .0) (found .find-member .ensures) (c .if2 .taken)
+    (found .before .read-u16 .ensures .0) (found .find-indexed .ensures .1 (start .pre .1)) (c .if2 .taken)
 
 descriptor-of-requires : tie.Need-descriptor-of-requires
 descriptor-of-requires c κs = search needs
@@ -43,9 +44,10 @@ returns-3 : tie.Need-returns-3
 returns-3 c =
     let part = c .before in
     let found = part .before .before in
-    let a = found .before .before .before .before .before .args in
+    let start = found .before .before .before .before .before .before in
+    let a = start .args in
     laws.got (a .code .now) (a .pc) (a .members .now) (a .count) (a .takes) _ _ (omega arith)
-    (found .before .read-u16 .ensures .0) _ (found .find-member .ensures) (part .before .if2 .left)
+    (found .before .read-u16 .ensures .0) _ (found .find-indexed .ensures .1 (start .pre .1)) (part .before .if2 .left)
     (c .slots-of-field-type .ensures ∙ ap fieldSlots (part .descriptor-of .ensures))
 
 pub get-effect-spec : {M : Type 1} → statement M
@@ -56,7 +58,7 @@ get-effect-spec =
     returns
     add-read-u16
     read-u16-requires
-    find-member-requires
+    find-indexed-requires
     returns-2
     descriptor-of-requires
     slots-of-field-type-requires

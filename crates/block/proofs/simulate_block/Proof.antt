@@ -1,190 +1,39 @@
--- `block::simulate_block` meets its contract. The loop's invariant: the walk from here on is the walk from the leader.
+-- `block::simulate_block` meets its contract. A table with no whole bucket serves any walk.
 -- Assumes nothing.
-use Prim.Native.Nat.{_+_, _-_, _^_, _<_}
 use native.Mathlib.Omega.{arith}
-use lib.ListN.{length}
 use borrow.Author.Needs.{needs}
-use Rattle.basics.specs.Bytes.{AreBytes}
-use Rattle.block.proofs.Looping as looping
 use Rattle.block.proofs.simulate_block.Statement.{statement}
 use Rattle.block.proofs.simulate_block.Tie as tie
 
-abbrev Inv-loop : tie.InvT-loop
-Inv-loop code members count leader fault stack₀ pc₀ height₀ completed₀ stack pc height completed =
-    looping.Inv code members count leader fault (length stack₀) stack pc height completed
+slice-aggregate-walk-block : tie.Need-slice-aggregate-walk-block
+slice-aggregate-walk-block c = search needs
 
-abbrev μ-loop : tie.MeasureT-loop
-μ-loop code members count leader fault stack₀ pc₀ height₀ completed₀ stack pc height completed = fault - pc
+walk-block-requires : tie.Need-walk-block-requires
+walk-block-requires c κs = λ index kind whole. absurd (omega (arith, whole))
 
-clear-requires : tie.Need-clear-requires Inv-loop μ-loop
-clear-requires c κs = search needs
-
-loop-holds : tie.Need-loop-holds Inv-loop μ-loop
-loop-holds c =
-    let first = c .before .before in
-    let a = first .before .before .before .before .before .args in
-    looping.starts (a .code .now) (a .members .now) (a .count) (a .leader) (a .fault) (length (a .stack .now)) _
-    (first .clear .ensures)
-
-step-at-requires : tie.Need-step-at-requires Inv-loop μ-loop
-step-at-requires c κs = search needs
-
--- each instruction has a byte before the fault, so the count is small
-counted : (c : tie.After-step-at Inv-loop μ-loop) → c .before .before .before .loop .completed + 1 < 2 ^ 64
-counted c =
-    let at = c .before .before .before .loop in
-    let start = c .before .before .before .before .before .before .before .before .before .before .before in
-    omega (arith, at .inv .2 .1, at .inv .2 .2, c .before .before .loop-test .taken, start .fits .fault)
-
-enum-told : tie.Need-enum-told Inv-loop μ-loop
-enum-told c = search needs
-
-clear-requires-2 : tie.Need-clear-requires-2 Inv-loop μ-loop
-clear-requires-2 c κs = search needs
-
-same-length : tie.Need-same-length Inv-loop μ-loop
+same-length : tie.Need-same-length
 same-length c = search needs
 
-returns : tie.Need-returns Inv-loop μ-loop
-returns c =
-    let turn = c .before .before .before .before .before .before .before .before in
-    let at = turn .before .before .before .loop in
-    let first = turn .before .before .before .before .before .before in
-    let a = first .before .before .before .before .before .args in
-    looping.ends-stopped (a .code .now) (a .members .now) (a .count) (a .leader) (a .fault) (a .stack .now) _
-    (first .clear .ensures) (at .stack) (at .pc) (at .height) (at .completed) (at .inv)
-    (turn .before .before .loop-test .taken) _ _ (omega arith) (c .before .before .clear2 .ensures)
-    (rw (c .before .before .before .before .enum-told .given .1) at (turn .step-at .ensures))
+returns : tie.Need-returns
+returns c = search needs
 
-enum-told-2 : tie.Need-enum-told-2 Inv-loop μ-loop
-enum-told-2 c = search needs
+walk-indexed-requires : tie.Need-walk-indexed-requires
+walk-indexed-requires c κs = search needs
 
-clear-requires-3 : tie.Need-clear-requires-3 Inv-loop μ-loop
-clear-requires-3 c κs = search needs
-
-same-length-2 : tie.Need-same-length-2 Inv-loop μ-loop
+same-length-2 : tie.Need-same-length-2
 same-length-2 c = search needs
 
-returns-2 : tie.Need-returns-2 Inv-loop μ-loop
-returns-2 c =
-    let turn = c .before .before .before .before .before .before .before .before in
-    let at = turn .before .before .before .loop in
-    let first = turn .before .before .before .before .before .before in
-    let a = first .before .before .before .before .before .args in
-    looping.ends-lacked (a .code .now) (a .members .now) (a .count) (a .leader) (a .fault) (a .stack .now) _
-    (first .clear .ensures) (at .stack) (at .pc) (at .height) (at .completed) (at .inv)
-    (turn .before .before .loop-test .taken) _ _ (omega arith) (c .before .before .clear3 .ensures)
-    (rw (c .before .before .before .before .enum-told2 .given .1) at (turn .step-at .ensures))
-
-enum-told-3 : tie.Need-enum-told-3 Inv-loop μ-loop
-enum-told-3 c = search needs
-
-clear-requires-4 : tie.Need-clear-requires-4 Inv-loop μ-loop
-clear-requires-4 c κs = search needs
-
-add-t28 : tie.Need-add-t28 Inv-loop μ-loop
-add-t28 c = omega (arith, counted (c .before .before .before .before .before .before .before .before))
-
-same-length-3 : tie.Need-same-length-3 Inv-loop μ-loop
-same-length-3 c = search needs
-
-returns-3 : tie.Need-returns-3 Inv-loop μ-loop
-returns-3 c =
-    let turn = c .before .before .before .before .before .before .before .before in
-    let at = turn .before .before .before .loop in
-    let first = turn .before .before .before .before .before .before in
-    let a = first .before .before .before .before .before .args in
-    looping.ends-passed (a .code .now) (a .members .now) (a .count) (a .leader) (a .fault) (a .stack .now) _
-    (first .clear .ensures) (at .stack) (at .pc) (at .height) (at .completed) (at .inv)
-    (turn .before .before .loop-test .taken) _ _ (omega arith) (c .before .before .clear4 .ensures)
-    (rw (c .before .before .before .before .enum-told3 .given .1) at (turn .step-at .ensures))
-
-enum-known-next : tie.Need-enum-known-next Inv-loop μ-loop
-enum-known-next c = search needs
-
-add-completed : tie.Need-add-completed Inv-loop μ-loop
-add-completed c = omega (arith, counted (c .before .before .before .before .before))
-
-loop-less : tie.Need-loop-less Inv-loop μ-loop
-loop-less c =
-    let turn = c .before .before .before .before .before in
-    let at = turn .before .before .before .loop in
-    let first = turn .before .before .before .before .before .before in
-    let start = first .before .before .before .before .before in
-    let a = start .args in
-    let bytes : AreBytes (a .code .now) = λ i. first .before .before .before .before .shared-slice-known .given i .fits in
-    let on = looping.up (a .code .now) (a .members .now) (a .count) (a .leader) (a .fault) (length (first .clear .last .0))
-    (at .stack) (at .pc) (at .height) (at .completed) (at .inv) bytes (turn .before .before .loop-test .taken) _ _ _
-    (rw (c .before .next .given .1) at (turn .step-at .ensures)) in
-    omega (arith, on, turn .before .before .loop-test .taken)
-
-loop-again : tie.Need-loop-again Inv-loop μ-loop
-loop-again c =
-    let turn = c .before .before .before .before .before in
-    let at = turn .before .before .before .loop in
-    let first = turn .before .before .before .before .before .before in
-    let start = first .before .before .before .before .before in
-    let a = start .args in
-    let bytes : AreBytes (a .code .now) = λ i. first .before .before .before .before .shared-slice-known .given i .fits in
-    looping.again (a .code .now) (a .members .now) (a .count) (a .leader) (a .fault) (length (first .clear .last .0))
-    (at .stack) (at .pc) (at .height) (at .completed) (at .inv) bytes (turn .before .before .loop-test .taken) _ _ _
-    (rw (c .before .next .given .1) at (turn .step-at .ensures))
-
-same-length-4 : tie.Need-same-length-4 Inv-loop μ-loop
-same-length-4 c = search needs
-
-returns-4 : tie.Need-returns-4 Inv-loop μ-loop
-returns-4 c =
-    let at = c .before .before .loop in
-    let first = c .before .before .before .before .before in
-    let a = first .before .before .before .before .before .args in
-    looping.ends-done (a .code .now) (a .members .now) (a .count) (a .leader) (a .fault) (a .stack .now) _
-    (first .clear .ensures) (at .stack) (at .pc) (at .height) (at .completed) (at .inv) (c .if1 .taken)
-
-clear-requires-5 : tie.Need-clear-requires-5 Inv-loop μ-loop
-clear-requires-5 c κs = search needs
-
-same-length-5 : tie.Need-same-length-5 Inv-loop μ-loop
-same-length-5 c = search needs
-
-returns-5 : tie.Need-returns-5 Inv-loop μ-loop
-returns-5 c =
-    let after = c .before .before .before .before in
-    let at = after .before .before .loop in
-    let first = after .before .before .before .before .before in
-    let a = first .before .before .before .before .before .args in
-    looping.ends-past (a .code .now) (a .members .now) (a .count) (a .leader) (a .fault) (a .stack .now) _
-    (first .clear .ensures) (at .stack) (at .pc) (at .height) (at .completed) (at .inv)
-    (after .before .loop-test .left) (after .if1 .left) _ (c .before .before .clear5 .ensures)
+returns-2 : tie.Need-returns-2
+returns-2 c = search needs
 
 pub simulate-block-spec : {M : Type 1} → statement M
 simulate-block-spec =
     tie.close
     (tie.spec
-    Inv-loop
-    μ-loop
-    clear-requires
-    loop-holds
-    step-at-requires
-    enum-told
-    clear-requires-2
+    slice-aggregate-walk-block
+    walk-block-requires
     same-length
     returns
-    enum-told-2
-    clear-requires-3
+    walk-indexed-requires
     same-length-2
-    returns-2
-    enum-told-3
-    clear-requires-4
-    add-t28
-    same-length-3
-    returns-3
-    enum-known-next
-    add-completed
-    loop-less
-    loop-again
-    same-length-4
-    returns-4
-    clear-requires-5
-    same-length-5
-    returns-5)
+    returns-2)

@@ -10,7 +10,7 @@ use Rattle.block.proofs.step_at.Tie as tie
 
 returns : tie.Need-returns
 returns c =
-    let a = c .before .before .before .before .args in
+    let a = c .before .before .before .before .before .args in
     stepping.past-end (lookupIn (a .members .now) (a .count)) (a .code .now) (a .fault) (a .pc) (a .stack .now)
     (take (a .height) (a .stack .now)) (c .if1 .taken)
 
@@ -48,7 +48,7 @@ returns-2 : tie.Need-returns-2
 returns-2 c =
     let laid = c .before .before .before .before in
     let read = laid .before .before .before .before in
-    let a = read .before .before .before .before .before .args in
+    let a = read .before .before .before .before .before .before .args in
     stepping.stops-at (lookupIn (a .members .now) (a .count)) (a .code .now) (a .fault) (a .pc) (a .stack .now)
     (take (a .height) (a .stack .now)) (omega arith) _ (read .effect-at .ensures) _
     (rw (c .enum-told .given .1) at (laid .apply .ensures))
@@ -60,7 +60,7 @@ returns-3 : tie.Need-returns-3
 returns-3 c =
     let laid = c .before .before .before .before in
     let read = laid .before .before .before .before in
-    let a = read .before .before .before .before .before .args in
+    let a = read .before .before .before .before .before .before .args in
     stepping.lacks-at (lookupIn (a .members .now) (a .count)) (a .code .now) (a .fault) (a .pc) (a .stack .now)
     (take (a .height) (a .stack .now)) (omega arith) _ (read .effect-at .ensures) _
     (rw (c .enum-told2 .given .1) at (laid .apply .ensures))
@@ -72,7 +72,7 @@ returns-4 : tie.Need-returns-4
 returns-4 c =
     let laid = c .before .before .before .before .before .before in
     let read = laid .before .before .before .before in
-    let a = read .before .before .before .before .before .args in
+    let a = read .before .before .before .before .before .before .args in
     stepping.lands-at (lookupIn (a .members .now) (a .count)) (a .code .now) (a .fault) (a .pc) (a .stack .now)
     (take (a .height) (a .stack .now)) (omega arith) _ (read .effect-at .ensures) _ _ _ _
     (laid .before .before .fixed-length .ensures) (rw (c .before .before .next .given .1) at (laid .apply .ensures))

@@ -1,9 +1,10 @@
 -- `report::trace_block` meets its contract. By the walk's answer; its slots stand in the cells that it leaves.
 -- Assumes nothing.
-use Prim.Native.Nat.{ℕ}
+use Prim.Native.Nat.{ℕ, _≤_}
 use native.Mathlib.Omega.{arith}
-use mathlib.Core.Path.{_≡_, sym, ap, _∙_}
-use lib.ListN.{length, replicate}
+use mathlib.Core.Path.{_≡_, sym, _∙_}
+use lib.ListN.{length}
+use lib.Seq.{length-take-le}
 use borrow.Author.Needs.{needs}
 use denote.Ref.{now}
 use Rattle.block.specs.Room.{blockWalk}
@@ -23,8 +24,12 @@ enum-known-block c = search needs
 enum-known-height : tie.Need-enum-known-height
 enum-known-height c = search needs
 
-slot-from-requires : tie.Need-slot-from-requires
-slot-from-requires c κs =
+-- the height of a walk that is done lies in the cells that it leaves
+reached :
+    (c : tie.After-slot-from-arg) →
+    c .before .before .height .given .0 .0
+    ≤ length (c .before .before .before .before .before .before .simulate-block .last .1 .1 .1 .1 .1 .0)
+reached c =
     let walk = c .before .before .before .before .before .before in
     let a = walk .before .before .before .before .before .args in
     let room : ℕ = length (now (a .stack)) in
@@ -33,6 +38,15 @@ slot-from-requires c κs =
     tracing.finished (a .scan) (a .depth) room walked _ _
     (sym (c .before .before .height .given .1) ∙ walk .simulate-block .ensures .0) in
     tracing.reaches (a .scan) (a .depth) room walked _ _ done _ (walk .simulate-block .ensures .1)
+
+slot-from-requires : tie.Need-slot-from-requires
+slot-from-requires c κs = reached c
+
+slice-relend-prefix-clear : tie.Need-slice-relend-prefix-clear
+slice-relend-prefix-clear c = reached (c .before)
+
+slice-aggregate-clear : tie.Need-slice-aggregate-clear
+slice-aggregate-clear c = sym (length-take-le _ _ (reached (c .before .before)))
 
 clear-requires : tie.Need-clear-requires
 clear-requires c κs = search needs
@@ -81,7 +95,8 @@ returns-3 c =
     let size : length (walk .simulate-block .last .1 .1 .1 .1 .1 .0) ≡ room = omega arith in (
       tracing.traces (a .scan) (a .depth) room walked _ _ done _ (walk .simulate-block .ensures .1) _
           (looked .slot-from .ensures),
-      c .before .before .clear .ensures ∙ ap (λ (k : ℕ). replicate k 0) size,
+      tracing.emptied (a .scan) (a .depth) room walked _ _ done _ (walk .simulate-block .ensures .1) size _
+          (c .before .before .clear .ensures),
     )
 
 pub trace-block-spec : {M : Type 1} → statement M
@@ -93,6 +108,8 @@ trace-block-spec =
     enum-known-block
     enum-known-height
     slot-from-requires
+    slice-relend-prefix-clear
+    slice-aggregate-clear
     clear-requires
     same-length
     returns

@@ -1,0 +1,216 @@
+-- `block::walk_block` meets its contract. The loop's invariant: the walk from here on is the walk from the leader.
+-- Assumes nothing.
+use Prim.Native.Nat.{_+_, _-_, _^_, _<_}
+use native.Mathlib.Omega.{arith}
+use mathlib.Core.Path.{sym}
+use lib.ListN.{length}
+use lib.Seq.{length-take-le}
+use borrow.Author.Needs.{needs}
+use Rattle.basics.specs.Bytes.{AreBytes}
+use Rattle.block.proofs.Looping as looping
+use Rattle.block.proofs.walk_block.Statement.{statement}
+use Rattle.block.proofs.walk_block.Tie as tie
+
+abbrev Inv-loop : tie.InvT-loop
+Inv-loop code members count table leader fault stack₀ pc₀ height₀ completed₀ stack pc height completed =
+    looping.Inv code members count leader fault (length stack₀) stack pc height completed
+
+abbrev μ-loop : tie.MeasureT-loop
+μ-loop code members count table leader fault stack₀ pc₀ height₀ completed₀ stack pc height completed = fault - pc
+
+clear-requires : tie.Need-clear-requires Inv-loop μ-loop
+clear-requires c κs = search needs
+
+loop-holds : tie.Need-loop-holds Inv-loop μ-loop
+loop-holds c =
+    let first = c .before .before in
+    let a = first .before .before .before .before .before .before .args in
+    looping.starts (a .code .now) (a .members .now) (a .count) (a .leader) (a .fault) (length (a .stack .now)) _
+    (first .clear .ensures)
+
+step-at-requires : tie.Need-step-at-requires Inv-loop μ-loop
+step-at-requires c κs = search needs
+
+-- each instruction has a byte before the fault, so the count is small
+counted : (c : tie.After-step-at Inv-loop μ-loop) → c .before .before .before .loop .completed + 1 < 2 ^ 64
+counted c =
+    let at = c .before .before .before .loop in
+    let start = c .before .before .before .before .before .before .before .before .before .before .before .before in
+    omega (arith, at .inv .2 .1, at .inv .2 .2, c .before .before .loop-test .taken, start .fits .fault)
+
+enum-told : tie.Need-enum-told Inv-loop μ-loop
+enum-told c = search needs
+
+slice-relend-prefix-clear : tie.Need-slice-relend-prefix-clear Inv-loop μ-loop
+slice-relend-prefix-clear c = omega (arith, c .before .before .before .before .before .before .before .loop .inv .1 .high)
+
+slice-aggregate-clear : tie.Need-slice-aggregate-clear Inv-loop μ-loop
+slice-aggregate-clear c = sym (length-take-le _ _ (slice-relend-prefix-clear (c .before)))
+
+clear-requires-2 : tie.Need-clear-requires-2 Inv-loop μ-loop
+clear-requires-2 c κs = search needs
+
+same-length : tie.Need-same-length Inv-loop μ-loop
+same-length c = search needs
+
+returns : tie.Need-returns Inv-loop μ-loop
+returns c =
+    let turn = c .before .before .before .before .before .before .before .before in
+    let at = turn .before .before .before .loop in
+    let first = turn .before .before .before .before .before .before in
+    let a = first .before .before .before .before .before .before .args in
+    looping.ends-stopped (a .code .now) (a .members .now) (a .count) (a .leader) (a .fault) (a .stack .now) _
+    (first .clear .ensures) (at .stack) (at .pc) (at .height) (at .completed) (at .inv)
+    _ _ (c .before .before .clear2 .ensures) (turn .before .before .loop-test .taken)
+    (rw (c .before .before .before .before .enum-told .given .1) at (turn .step-at .ensures))
+
+enum-told-2 : tie.Need-enum-told-2 Inv-loop μ-loop
+enum-told-2 c = search needs
+
+slice-relend-prefix-clear-2 : tie.Need-slice-relend-prefix-clear-2 Inv-loop μ-loop
+slice-relend-prefix-clear-2 c = omega (arith, c .before .before .before .before .before .before .before .loop .inv .1 .high)
+
+slice-aggregate-clear-2 : tie.Need-slice-aggregate-clear-2 Inv-loop μ-loop
+slice-aggregate-clear-2 c = sym (length-take-le _ _ (slice-relend-prefix-clear-2 (c .before)))
+
+clear-requires-3 : tie.Need-clear-requires-3 Inv-loop μ-loop
+clear-requires-3 c κs = search needs
+
+same-length-2 : tie.Need-same-length-2 Inv-loop μ-loop
+same-length-2 c = search needs
+
+returns-2 : tie.Need-returns-2 Inv-loop μ-loop
+returns-2 c =
+    let turn = c .before .before .before .before .before .before .before .before in
+    let at = turn .before .before .before .loop in
+    let first = turn .before .before .before .before .before .before in
+    let a = first .before .before .before .before .before .before .args in
+    looping.ends-lacked (a .code .now) (a .members .now) (a .count) (a .leader) (a .fault) (a .stack .now) _
+    (first .clear .ensures) (at .stack) (at .pc) (at .height) (at .completed) (at .inv)
+    _ _ (c .before .before .clear3 .ensures) (turn .before .before .loop-test .taken)
+    (rw (c .before .before .before .before .enum-told2 .given .1) at (turn .step-at .ensures))
+
+enum-told-3 : tie.Need-enum-told-3 Inv-loop μ-loop
+enum-told-3 c = search needs
+
+clear-requires-4 : tie.Need-clear-requires-4 Inv-loop μ-loop
+clear-requires-4 c κs = search needs
+
+add-t29 : tie.Need-add-t29 Inv-loop μ-loop
+add-t29 c = omega (arith, counted (c .before .before .before .before .before .before .before .before))
+
+same-length-3 : tie.Need-same-length-3 Inv-loop μ-loop
+same-length-3 c = search needs
+
+returns-3 : tie.Need-returns-3 Inv-loop μ-loop
+returns-3 c =
+    let turn = c .before .before .before .before .before .before .before .before in
+    let at = turn .before .before .before .loop in
+    let first = turn .before .before .before .before .before .before in
+    let a = first .before .before .before .before .before .before .args in
+    looping.ends-passed (a .code .now) (a .members .now) (a .count) (a .leader) (a .fault) (a .stack .now) _
+    (first .clear .ensures) (at .stack) (at .pc) (at .height) (at .completed) (at .inv)
+    (turn .before .before .loop-test .taken) _ _ (omega arith) (c .before .before .clear4 .ensures)
+    (rw (c .before .before .before .before .enum-told3 .given .1) at (turn .step-at .ensures))
+
+enum-known-next : tie.Need-enum-known-next Inv-loop μ-loop
+enum-known-next c = search needs
+
+add-completed : tie.Need-add-completed Inv-loop μ-loop
+add-completed c = omega (arith, counted (c .before .before .before .before .before))
+
+loop-less : tie.Need-loop-less Inv-loop μ-loop
+loop-less c =
+    let turn = c .before .before .before .before .before in
+    let at = turn .before .before .before .loop in
+    let first = turn .before .before .before .before .before .before in
+    let start = first .before .before .before .before .before .before in
+    let a = start .args in
+    let bytes : AreBytes (a .code .now) = λ i. first .before .before .before .before .before .shared-slice-known .given i .fits in
+    let on = looping.up (a .code .now) (a .members .now) (a .count) (a .leader) (a .fault) (length (first .clear .last .0))
+    (at .stack) (at .pc) (at .height) (at .completed) (at .inv) bytes (turn .before .before .loop-test .taken) _ _ _
+    (rw (c .before .next .given .1) at (turn .step-at .ensures)) in
+    omega (arith, on, turn .before .before .loop-test .taken)
+
+loop-again : tie.Need-loop-again Inv-loop μ-loop
+loop-again c =
+    let turn = c .before .before .before .before .before in
+    let at = turn .before .before .before .loop in
+    let first = turn .before .before .before .before .before .before in
+    let start = first .before .before .before .before .before .before in
+    let a = start .args in
+    let bytes : AreBytes (a .code .now) = λ i. first .before .before .before .before .before .shared-slice-known .given i .fits in
+    looping.again (a .code .now) (a .members .now) (a .count) (a .leader) (a .fault) (length (first .clear .last .0))
+    (at .stack) (at .pc) (at .height) (at .completed) (at .inv) bytes (turn .before .before .loop-test .taken) _ _ _
+    (rw (c .before .next .given .1) at (turn .step-at .ensures))
+
+same-length-4 : tie.Need-same-length-4 Inv-loop μ-loop
+same-length-4 c = search needs
+
+returns-4 : tie.Need-returns-4 Inv-loop μ-loop
+returns-4 c =
+    let at = c .before .before .loop in
+    let first = c .before .before .before .before .before in
+    let a = first .before .before .before .before .before .before .args in
+    looping.ends-done (a .code .now) (a .members .now) (a .count) (a .leader) (a .fault) (a .stack .now) _
+    (first .clear .ensures) (at .stack) (at .pc) (at .height) (at .completed) (at .inv) (c .if1 .taken)
+
+slice-relend-prefix-clear-3 : tie.Need-slice-relend-prefix-clear-3 Inv-loop μ-loop
+slice-relend-prefix-clear-3 c = c .before .before .loop .inv .1 .high
+
+slice-aggregate-clear-3 : tie.Need-slice-aggregate-clear-3 Inv-loop μ-loop
+slice-aggregate-clear-3 c = sym (length-take-le _ _ (slice-relend-prefix-clear-3 (c .before)))
+
+clear-requires-5 : tie.Need-clear-requires-5 Inv-loop μ-loop
+clear-requires-5 c κs = search needs
+
+same-length-5 : tie.Need-same-length-5 Inv-loop μ-loop
+same-length-5 c = search needs
+
+returns-5 : tie.Need-returns-5 Inv-loop μ-loop
+returns-5 c =
+    let after = c .before .before .before .before in
+    let at = after .before .before .loop in
+    let first = after .before .before .before .before .before in
+    let a = first .before .before .before .before .before .before .args in
+    looping.ends-past (a .code .now) (a .members .now) (a .count) (a .leader) (a .fault) (a .stack .now) _
+    (first .clear .ensures) (at .stack) (at .pc) (at .height) (at .completed) (at .inv)
+    (after .before .loop-test .left) (after .if1 .left) _ (c .before .before .clear5 .ensures)
+
+pub walk-block-spec : {M : Type 1} → statement M
+walk-block-spec =
+    tie.close
+    (tie.spec
+    Inv-loop
+    μ-loop
+    clear-requires
+    loop-holds
+    step-at-requires
+    enum-told
+    slice-relend-prefix-clear
+    slice-aggregate-clear
+    clear-requires-2
+    same-length
+    returns
+    enum-told-2
+    slice-relend-prefix-clear-2
+    slice-aggregate-clear-2
+    clear-requires-3
+    same-length-2
+    returns-2
+    enum-told-3
+    clear-requires-4
+    add-t29
+    same-length-3
+    returns-3
+    enum-known-next
+    add-completed
+    loop-less
+    loop-again
+    same-length-4
+    returns-4
+    slice-relend-prefix-clear-3
+    slice-aggregate-clear-3
+    clear-requires-5
+    same-length-5
+    returns-5)
