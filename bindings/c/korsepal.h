@@ -1,4 +1,4 @@
-/* Korsepal: the null-report module, as a static library (libffi.a, x86-64).
+/* Korsepal: the null-report module, as a static library (libkorsepal.a, which bindings/archive writes).
  *
  * Every function takes any input, ends, and touches nothing but the memory that it is lent. A slice is two arguments, a
  * pointer and a count. Nothing is allocated and nothing is kept.
