@@ -65,3 +65,8 @@ thenNumber NotNumber otherwise following = otherwise
 abbrev pub numberWithin : ℕ → ℕ → ℕ → Number → Type 0
 numberWithin limit size at (Value v next) = (v ≤ limit) × (at < next) × (next ≤ size)
 numberWithin limit size at NotNumber = Unit {0}
+
+-- a number behind a first group: the greatest has 511 there
+abbrev pub restWithin : Number → Type 0
+restWithin (Value v next) = v ≤ 511
+restWithin NotNumber = Unit {0}

@@ -12,8 +12,8 @@ returns : tie.Need-returns
 unfolding caseOf
 returns c = sym (rw (lt-ltb _ _ (c .if1 .taken)))
 
-read-number-requires : tie.Need-read-number-requires
-read-number-requires c κs = search needs
+case-number-requires : tie.Need-case-number-requires
+case-number-requires c κs = search needs
 
 enum-known-flags : tie.Need-enum-known-flags
 enum-known-flags c = search needs
@@ -24,13 +24,13 @@ enum-told c = search needs
 returns-2 : tie.Need-returns-2
 unfolding caseOf placesIn
 returns-2 c =
-    let after-read-number = c .before .before in
-    let after-if1 = after-read-number .before in
-    let enum-told-is = sym (after-read-number .read-number .ensures .0) ∙ c .enum-told .given .1 in
+    let after-case-number = c .before .before in
+    let after-if1 = after-case-number .before in
+    let enum-told-is = sym (after-case-number .case-number .ensures .0) ∙ c .enum-told .given .1 in
     sym (rw (le-ltb _ _ (after-if1 .if1 .left), enum-told-is))
 
-read-number-requires-2 : tie.Need-read-number-requires-2
-read-number-requires-2 c κs = search needs
+case-number-requires-2 : tie.Need-case-number-requires-2
+case-number-requires-2 c κs = search needs
 
 enum-known-fault : tie.Need-enum-known-fault
 enum-known-fault c = search needs
@@ -41,12 +41,12 @@ enum-told-2 c = search needs
 returns-3 : tie.Need-returns-3
 unfolding caseOf placesIn
 returns-3 c =
-    let after-read-number2 = c .before .before in
-    let after-flags = after-read-number2 .before .before in
-    let after-read-number = after-flags .before .before in
-    let after-if1 = after-read-number .before in
-    let flags-is = sym (after-read-number .read-number .ensures .0) ∙ after-flags .flags .given .1 in
-    let enum-told2-is = sym (after-read-number2 .read-number2 .ensures .0) ∙ c .enum-told2 .given .1 in
+    let after-case-number2 = c .before .before in
+    let after-flags = after-case-number2 .before .before in
+    let after-case-number = after-flags .before .before in
+    let after-if1 = after-case-number .before in
+    let flags-is = sym (after-case-number .case-number .ensures .0) ∙ after-flags .flags .given .1 in
+    let enum-told2-is = sym (after-case-number2 .case-number2 .ensures .0) ∙ c .enum-told2 .given .1 in
     sym (rw (le-ltb _ _ (after-if1 .if1 .left), flags-is, enum-told2-is))
 
 read-text-requires : tie.Need-read-text-requires
@@ -63,12 +63,12 @@ unfolding caseOf placesIn
 returns-4 c =
     let after-read-text = c .before .before in
     let after-fault = after-read-text .before .before in
-    let after-read-number2 = after-fault .before .before in
-    let after-flags = after-read-number2 .before .before in
-    let after-read-number = after-flags .before .before in
-    let after-if1 = after-read-number .before in
-    let flags-is = sym (after-read-number .read-number .ensures .0) ∙ after-flags .flags .given .1 in
-    let fault-is = sym (after-read-number2 .read-number2 .ensures .0) ∙ after-fault .fault .given .1 in
+    let after-case-number2 = after-fault .before .before in
+    let after-flags = after-case-number2 .before .before in
+    let after-case-number = after-flags .before .before in
+    let after-if1 = after-case-number .before in
+    let flags-is = sym (after-case-number .case-number .ensures .0) ∙ after-flags .flags .given .1 in
+    let fault-is = sym (after-case-number2 .case-number2 .ensures .0) ∙ after-fault .fault .given .1 in
     let enum-told3-is = sym (after-read-text .read-text .ensures .0) ∙ c .enum-told3 .given .1 in
     sym (rw (le-ltb _ _ (after-if1 .if1 .left), flags-is, fault-is, enum-told3-is))
 
@@ -91,12 +91,12 @@ returns-5 c =
     let after-code = after-read-text2 .before .before in
     let after-read-text = after-code .before .before in
     let after-fault = after-read-text .before .before in
-    let after-read-number2 = after-fault .before .before in
-    let after-flags = after-read-number2 .before .before in
-    let after-read-number = after-flags .before .before in
-    let after-if1 = after-read-number .before in
-    let flags-is = sym (after-read-number .read-number .ensures .0) ∙ after-flags .flags .given .1 in
-    let fault-is = sym (after-read-number2 .read-number2 .ensures .0) ∙ after-fault .fault .given .1 in
+    let after-case-number2 = after-fault .before .before in
+    let after-flags = after-case-number2 .before .before in
+    let after-case-number = after-flags .before .before in
+    let after-if1 = after-case-number .before in
+    let flags-is = sym (after-case-number .case-number .ensures .0) ∙ after-flags .flags .given .1 in
+    let fault-is = sym (after-case-number2 .case-number2 .ensures .0) ∙ after-fault .fault .given .1 in
     let code-is = sym (after-read-text .read-text .ensures .0) ∙ after-code .code .given .1 in
     let enum-told4-is = sym (after-read-text2 .read-text2 .ensures .0) ∙ c .enum-told4 .given .1 in
     sym (rw (le-ltb _ _ (after-if1 .if1 .left), flags-is, fault-is, code-is, enum-told4-is))
@@ -123,12 +123,12 @@ returns-6 c =
     let after-code = after-read-text2 .before .before in
     let after-read-text = after-code .before .before in
     let after-fault = after-read-text .before .before in
-    let after-read-number2 = after-fault .before .before in
-    let after-flags = after-read-number2 .before .before in
-    let after-read-number = after-flags .before .before in
-    let after-if1 = after-read-number .before in
-    let flags-is = sym (after-read-number .read-number .ensures .0) ∙ after-flags .flags .given .1 in
-    let fault-is = sym (after-read-number2 .read-number2 .ensures .0) ∙ after-fault .fault .given .1 in
+    let after-case-number2 = after-fault .before .before in
+    let after-flags = after-case-number2 .before .before in
+    let after-case-number = after-flags .before .before in
+    let after-if1 = after-case-number .before in
+    let flags-is = sym (after-case-number .case-number .ensures .0) ∙ after-flags .flags .given .1 in
+    let fault-is = sym (after-case-number2 .case-number2 .ensures .0) ∙ after-fault .fault .given .1 in
     let code-is = sym (after-read-text .read-text .ensures .0) ∙ after-code .code .given .1 in
     let signature-is = sym (after-read-text2 .read-text2 .ensures .0) ∙ after-signature .signature .given .1 in
     let tables-is = sym (after-read-tables .read-tables .ensures) ∙ after-tables .tables .given .1 in
@@ -144,12 +144,12 @@ returns-7 c =
     let after-code = after-read-text2 .before .before in
     let after-read-text = after-code .before .before in
     let after-fault = after-read-text .before .before in
-    let after-read-number2 = after-fault .before .before in
-    let after-flags = after-read-number2 .before .before in
-    let after-read-number = after-flags .before .before in
-    let after-if1 = after-read-number .before in
-    let flags-is = sym (after-read-number .read-number .ensures .0) ∙ after-flags .flags .given .1 in
-    let fault-is = sym (after-read-number2 .read-number2 .ensures .0) ∙ after-fault .fault .given .1 in
+    let after-case-number2 = after-fault .before .before in
+    let after-flags = after-case-number2 .before .before in
+    let after-case-number = after-flags .before .before in
+    let after-if1 = after-case-number .before in
+    let flags-is = sym (after-case-number .case-number .ensures .0) ∙ after-flags .flags .given .1 in
+    let fault-is = sym (after-case-number2 .case-number2 .ensures .0) ∙ after-fault .fault .given .1 in
     let code-is = sym (after-read-text .read-text .ensures .0) ∙ after-code .code .given .1 in
     let signature-is = sym (after-read-text2 .read-text2 .ensures .0) ∙ after-signature .signature .given .1 in
     let wrong-is = sym (after-read-tables .read-tables .ensures) ∙ after-wrong .wrong .given .1 in
@@ -160,11 +160,11 @@ read-case-spec =
     tie.close
     (tie.spec
     returns
-    read-number-requires
+    case-number-requires
     enum-known-flags
     enum-told
     returns-2
-    read-number-requires-2
+    case-number-requires-2
     enum-known-fault
     enum-told-2
     returns-3

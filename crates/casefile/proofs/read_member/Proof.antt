@@ -8,8 +8,8 @@ use Rattle.casefile.specs.Member.{memberAt}
 use Rattle.casefile.proofs.read_member.Statement.{statement}
 use Rattle.casefile.proofs.read_member.Tie as tie
 
-read-number-requires : tie.Need-read-number-requires
-read-number-requires c κs = search needs
+case-number-requires : tie.Need-case-number-requires
+case-number-requires c κs = search needs
 
 enum-known-index : tie.Need-enum-known-index
 enum-known-index c = search needs
@@ -20,20 +20,20 @@ enum-told c = search needs
 returns : tie.Need-returns
 unfolding memberAt
 returns c =
-    let after-read-number = c .before .before in
-    let enum-told-is = sym (after-read-number .read-number .ensures .0) ∙ c .enum-told .given .1 in
+    let after-case-number = c .before .before in
+    let enum-told-is = sym (after-case-number .case-number .ensures .0) ∙ c .enum-told .given .1 in
     (sym (rw (enum-told-is)), tt)
 
 returns-2 : tie.Need-returns-2
 unfolding memberAt
 returns-2 c =
     let after-index = c .before .before in
-    let after-read-number = after-index .before .before in
-    let index-is = sym (after-read-number .read-number .ensures .0) ∙ after-index .index .given .1 in
+    let after-case-number = after-index .before .before in
+    let index-is = sym (after-case-number .case-number .ensures .0) ∙ after-index .index .given .1 in
     (sym (rw (index-is, le-ltb _ _ (c .if1 .taken))), tt)
 
-read-number-requires-2 : tie.Need-read-number-requires-2
-read-number-requires-2 c κs = search needs
+case-number-requires-2 : tie.Need-case-number-requires-2
+case-number-requires-2 c κs = search needs
 
 enum-known-kind : tie.Need-enum-known-kind
 enum-known-kind c = search needs
@@ -44,24 +44,24 @@ enum-told-2 c = search needs
 returns-3 : tie.Need-returns-3
 unfolding memberAt
 returns-3 c =
-    let after-read-number2 = c .before .before in
-    let after-if1 = after-read-number2 .before in
+    let after-case-number2 = c .before .before in
+    let after-if1 = after-case-number2 .before in
     let after-index = after-if1 .before .before in
-    let after-read-number = after-index .before .before in
-    let index-is = sym (after-read-number .read-number .ensures .0) ∙ after-index .index .given .1 in
-    let enum-told2-is = sym (after-read-number2 .read-number2 .ensures .0) ∙ c .enum-told2 .given .1 in
+    let after-case-number = after-index .before .before in
+    let index-is = sym (after-case-number .case-number .ensures .0) ∙ after-index .index .given .1 in
+    let enum-told2-is = sym (after-case-number2 .case-number2 .ensures .0) ∙ c .enum-told2 .given .1 in
     (sym (rw (index-is, lt-ltb _ _ (after-if1 .if1 .left), enum-told2-is)), tt)
 
 returns-4 : tie.Need-returns-4
 unfolding memberAt
 returns-4 c =
     let after-kind = c .before .before in
-    let after-read-number2 = after-kind .before .before in
-    let after-if1 = after-read-number2 .before in
+    let after-case-number2 = after-kind .before .before in
+    let after-if1 = after-case-number2 .before in
     let after-index = after-if1 .before .before in
-    let after-read-number = after-index .before .before in
-    let index-is = sym (after-read-number .read-number .ensures .0) ∙ after-index .index .given .1 in
-    let kind-is = sym (after-read-number2 .read-number2 .ensures .0) ∙ after-kind .kind .given .1 in
+    let after-case-number = after-index .before .before in
+    let index-is = sym (after-case-number .case-number .ensures .0) ∙ after-index .index .given .1 in
+    let kind-is = sym (after-case-number2 .case-number2 .ensures .0) ∙ after-kind .kind .given .1 in
     (sym (rw (index-is, lt-ltb _ _ (after-if1 .if1 .left), kind-is, lt-leb _ _ (c .if2 .taken))), tt)
 
 read-texts-requires : tie.Need-read-texts-requires
@@ -80,15 +80,15 @@ returns-5 c =
     let after-read-texts = after-next .before .before in
     let after-if2 = after-read-texts .before in
     let after-kind = after-if2 .before .before in
-    let after-read-number2 = after-kind .before .before in
-    let after-if1 = after-read-number2 .before in
+    let after-case-number2 = after-kind .before .before in
+    let after-if1 = after-case-number2 .before in
     let after-index = after-if1 .before .before in
-    let after-read-number = after-index .before .before in
-    let index-is = sym (after-read-number .read-number .ensures .0) ∙ after-index .index .given .1 in
-    let kind-is = sym (after-read-number2 .read-number2 .ensures .0) ∙ after-kind .kind .given .1 in
+    let after-case-number = after-index .before .before in
+    let index-is = sym (after-case-number .case-number .ensures .0) ∙ after-index .index .given .1 in
+    let kind-is = sym (after-case-number2 .case-number2 .ensures .0) ∙ after-kind .kind .given .1 in
     let next-is = sym (after-read-texts .read-texts .ensures .0) ∙ after-next .next .given .1 in
-    let indexes = rw (after-index .index .given .1) at (after-read-number .read-number .ensures .1) in
-    let kinds = rw (after-kind .kind .given .1) at (after-read-number2 .read-number2 .ensures .1) in
+    let indexes = rw (after-index .index .given .1) at (after-case-number .case-number .ensures .1) in
+    let kinds = rw (after-kind .kind .given .1) at (after-case-number2 .case-number2 .ensures .1) in
     let run = rw (after-next .next .given .1) at (after-read-texts .read-texts .ensures .1) in (
       sym
           (rw (index-is, lt-ltb _ _ (after-if1 .if1 .left), kind-is, le-leb _ _ (after-if2 .if2 .left), next-is)),
@@ -102,12 +102,12 @@ returns-6 c =
     let after-read-texts = after-wrong .before .before in
     let after-if2 = after-read-texts .before in
     let after-kind = after-if2 .before .before in
-    let after-read-number2 = after-kind .before .before in
-    let after-if1 = after-read-number2 .before in
+    let after-case-number2 = after-kind .before .before in
+    let after-if1 = after-case-number2 .before in
     let after-index = after-if1 .before .before in
-    let after-read-number = after-index .before .before in
-    let index-is = sym (after-read-number .read-number .ensures .0) ∙ after-index .index .given .1 in
-    let kind-is = sym (after-read-number2 .read-number2 .ensures .0) ∙ after-kind .kind .given .1 in
+    let after-case-number = after-index .before .before in
+    let index-is = sym (after-case-number .case-number .ensures .0) ∙ after-index .index .given .1 in
+    let kind-is = sym (after-case-number2 .case-number2 .ensures .0) ∙ after-kind .kind .given .1 in
     let wrong-is = sym (after-read-texts .read-texts .ensures .0) ∙ after-wrong .wrong .given .1 in
     (sym (rw (index-is, lt-ltb _ _ (after-if1 .if1 .left), kind-is, le-leb _ _ (after-if2 .if2 .left), wrong-is)), tt)
 
@@ -115,12 +115,12 @@ pub read-member-spec : {M : Type 1} → statement M
 read-member-spec =
     tie.close
     (tie.spec
-    read-number-requires
+    case-number-requires
     enum-known-index
     enum-told
     returns
     returns-2
-    read-number-requires-2
+    case-number-requires-2
     enum-known-kind
     enum-told-2
     returns-3

@@ -7,8 +7,8 @@ use Rattle.casefile.specs.LocalRecord.{recordAt}
 use Rattle.casefile.proofs.read_record.Statement.{statement}
 use Rattle.casefile.proofs.read_record.Tie as tie
 
-read-number-requires : tie.Need-read-number-requires
-read-number-requires c κs = search needs
+case-number-requires : tie.Need-case-number-requires
+case-number-requires c κs = search needs
 
 enum-known-start : tie.Need-enum-known-start
 enum-known-start c = search needs
@@ -19,12 +19,12 @@ enum-told c = search needs
 returns : tie.Need-returns
 unfolding recordAt
 returns c =
-    let after-read-number = c .before .before in
-    let enum-told-is = sym (after-read-number .read-number .ensures .0) ∙ c .enum-told .given .1 in
+    let after-case-number = c .before .before in
+    let enum-told-is = sym (after-case-number .case-number .ensures .0) ∙ c .enum-told .given .1 in
     (sym (rw (enum-told-is)), tt)
 
-read-number-requires-2 : tie.Need-read-number-requires-2
-read-number-requires-2 c κs = search needs
+case-number-requires-2 : tie.Need-case-number-requires-2
+case-number-requires-2 c κs = search needs
 
 enum-known-length : tie.Need-enum-known-length
 enum-known-length c = search needs
@@ -35,15 +35,15 @@ enum-told-2 c = search needs
 returns-2 : tie.Need-returns-2
 unfolding recordAt
 returns-2 c =
-    let after-read-number2 = c .before .before in
-    let after-start = after-read-number2 .before .before in
-    let after-read-number = after-start .before .before in
-    let start-is = sym (after-read-number .read-number .ensures .0) ∙ after-start .start .given .1 in
-    let enum-told2-is = sym (after-read-number2 .read-number2 .ensures .0) ∙ c .enum-told2 .given .1 in
+    let after-case-number2 = c .before .before in
+    let after-start = after-case-number2 .before .before in
+    let after-case-number = after-start .before .before in
+    let start-is = sym (after-case-number .case-number .ensures .0) ∙ after-start .start .given .1 in
+    let enum-told2-is = sym (after-case-number2 .case-number2 .ensures .0) ∙ c .enum-told2 .given .1 in
     (sym (rw (start-is, enum-told2-is)), tt)
 
-read-number-requires-3 : tie.Need-read-number-requires-3
-read-number-requires-3 c κs = search needs
+case-number-requires-3 : tie.Need-case-number-requires-3
+case-number-requires-3 c κs = search needs
 
 enum-known-slot : tie.Need-enum-known-slot
 enum-known-slot c = search needs
@@ -54,14 +54,14 @@ enum-told-3 c = search needs
 returns-3 : tie.Need-returns-3
 unfolding recordAt
 returns-3 c =
-    let after-read-number3 = c .before .before in
-    let after-length = after-read-number3 .before .before in
-    let after-read-number2 = after-length .before .before in
-    let after-start = after-read-number2 .before .before in
-    let after-read-number = after-start .before .before in
-    let start-is = sym (after-read-number .read-number .ensures .0) ∙ after-start .start .given .1 in
-    let length-is = sym (after-read-number2 .read-number2 .ensures .0) ∙ after-length .length .given .1 in
-    let enum-told3-is = sym (after-read-number3 .read-number3 .ensures .0) ∙ c .enum-told3 .given .1 in
+    let after-case-number3 = c .before .before in
+    let after-length = after-case-number3 .before .before in
+    let after-case-number2 = after-length .before .before in
+    let after-start = after-case-number2 .before .before in
+    let after-case-number = after-start .before .before in
+    let start-is = sym (after-case-number .case-number .ensures .0) ∙ after-start .start .given .1 in
+    let length-is = sym (after-case-number2 .case-number2 .ensures .0) ∙ after-length .length .given .1 in
+    let enum-told3-is = sym (after-case-number3 .case-number3 .ensures .0) ∙ c .enum-told3 .given .1 in
     (sym (rw (start-is, length-is, enum-told3-is)), tt)
 
 read-text-requires : tie.Need-read-text-requires
@@ -78,14 +78,14 @@ unfolding recordAt
 returns-4 c =
     let after-read-text = c .before .before in
     let after-slot = after-read-text .before .before in
-    let after-read-number3 = after-slot .before .before in
-    let after-length = after-read-number3 .before .before in
-    let after-read-number2 = after-length .before .before in
-    let after-start = after-read-number2 .before .before in
-    let after-read-number = after-start .before .before in
-    let start-is = sym (after-read-number .read-number .ensures .0) ∙ after-start .start .given .1 in
-    let length-is = sym (after-read-number2 .read-number2 .ensures .0) ∙ after-length .length .given .1 in
-    let slot-is = sym (after-read-number3 .read-number3 .ensures .0) ∙ after-slot .slot .given .1 in
+    let after-case-number3 = after-slot .before .before in
+    let after-length = after-case-number3 .before .before in
+    let after-case-number2 = after-length .before .before in
+    let after-start = after-case-number2 .before .before in
+    let after-case-number = after-start .before .before in
+    let start-is = sym (after-case-number .case-number .ensures .0) ∙ after-start .start .given .1 in
+    let length-is = sym (after-case-number2 .case-number2 .ensures .0) ∙ after-length .length .given .1 in
+    let slot-is = sym (after-case-number3 .case-number3 .ensures .0) ∙ after-slot .slot .given .1 in
     let enum-told4-is = sym (after-read-text .read-text .ensures .0) ∙ c .enum-told4 .given .1 in
     (sym (rw (start-is, length-is, slot-is, enum-told4-is)), tt)
 
@@ -98,18 +98,18 @@ returns-5 c =
     let after-name = c .before in
     let after-read-text = after-name .before .before in
     let after-slot = after-read-text .before .before in
-    let after-read-number3 = after-slot .before .before in
-    let after-length = after-read-number3 .before .before in
-    let after-read-number2 = after-length .before .before in
-    let after-start = after-read-number2 .before .before in
-    let after-read-number = after-start .before .before in
-    let start-is = sym (after-read-number .read-number .ensures .0) ∙ after-start .start .given .1 in
-    let length-is = sym (after-read-number2 .read-number2 .ensures .0) ∙ after-length .length .given .1 in
-    let slot-is = sym (after-read-number3 .read-number3 .ensures .0) ∙ after-slot .slot .given .1 in
+    let after-case-number3 = after-slot .before .before in
+    let after-length = after-case-number3 .before .before in
+    let after-case-number2 = after-length .before .before in
+    let after-start = after-case-number2 .before .before in
+    let after-case-number = after-start .before .before in
+    let start-is = sym (after-case-number .case-number .ensures .0) ∙ after-start .start .given .1 in
+    let length-is = sym (after-case-number2 .case-number2 .ensures .0) ∙ after-length .length .given .1 in
+    let slot-is = sym (after-case-number3 .case-number3 .ensures .0) ∙ after-slot .slot .given .1 in
     let name-is = sym (after-read-text .read-text .ensures .0) ∙ after-name .name .given .1 in
-    let starts = rw (after-start .start .given .1) at (after-read-number .read-number .ensures .1) in
-    let lengths = rw (after-length .length .given .1) at (after-read-number2 .read-number2 .ensures .1) in
-    let slots = rw (after-slot .slot .given .1) at (after-read-number3 .read-number3 .ensures .1) in
+    let starts = rw (after-start .start .given .1) at (after-case-number .case-number .ensures .1) in
+    let lengths = rw (after-length .length .given .1) at (after-case-number2 .case-number2 .ensures .1) in
+    let slots = rw (after-slot .slot .given .1) at (after-case-number3 .case-number3 .ensures .1) in
     let names = rw (after-name .name .given .1) at (after-read-text .read-text .ensures .1) in (
       sym (rw (start-is, length-is, slot-is, name-is)),
       (starts .0, lengths .0, slots .0, names .0, omega (arith, starts .1, lengths .1, slots .1, names .1), refl, names .2),
@@ -119,15 +119,15 @@ pub read-record-spec : {M : Type 1} → statement M
 read-record-spec =
     tie.close
     (tie.spec
-    read-number-requires
+    case-number-requires
     enum-known-start
     enum-told
     returns
-    read-number-requires-2
+    case-number-requires-2
     enum-known-length
     enum-told-2
     returns-2
-    read-number-requires-3
+    case-number-requires-3
     enum-known-slot
     enum-told-3
     returns-3

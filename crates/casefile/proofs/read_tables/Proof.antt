@@ -8,8 +8,8 @@ use Rattle.casefile.specs.Whole.{tablesAt}
 use Rattle.casefile.proofs.read_tables.Statement.{statement}
 use Rattle.casefile.proofs.read_tables.Tie as tie
 
-read-number-requires : tie.Need-read-number-requires
-read-number-requires c κs = search needs
+case-number-requires : tie.Need-case-number-requires
+case-number-requires c κs = search needs
 
 enum-known-member-count : tie.Need-enum-known-member-count
 enum-known-member-count c = search needs
@@ -20,8 +20,8 @@ enum-told c = search needs
 returns : tie.Need-returns
 unfolding tablesAt
 returns c =
-    let after-read-number = c .before .before in
-    let enum-told-is = sym (after-read-number .read-number .ensures .0) ∙ c .enum-told .given .1 in
+    let after-case-number = c .before .before in
+    let enum-told-is = sym (after-case-number .case-number .ensures .0) ∙ c .enum-told .given .1 in
     sym (rw (enum-told-is))
 
 read-members-requires : tie.Need-read-members-requires
@@ -39,13 +39,13 @@ returns-2 c =
     let after-member-run2 = c .before in
     let after-read-members = after-member-run2 .before .before in
     let after-member-count = after-read-members .before .before in
-    let after-read-number = after-member-count .before .before in
-    let member-count-is = sym (after-read-number .read-number .ensures .0) ∙ after-member-count .member-count .given .1 in
+    let after-case-number = after-member-count .before .before in
+    let member-count-is = sym (after-case-number .case-number .ensures .0) ∙ after-member-count .member-count .given .1 in
     let member-run2-is = sym (after-read-members .read-members .ensures .0) ∙ after-member-run2 .member-run2 .given .1 in
     sym (rw (member-count-is, member-run2-is))
 
-read-number-requires-2 : tie.Need-read-number-requires-2
-read-number-requires-2 c κs = search needs
+case-number-requires-2 : tie.Need-case-number-requires-2
+case-number-requires-2 c κs = search needs
 
 enum-known-record-count : tie.Need-enum-known-record-count
 enum-known-record-count c = search needs
@@ -56,14 +56,14 @@ enum-told-2 c = search needs
 returns-3 : tie.Need-returns-3
 unfolding tablesAt
 returns-3 c =
-    let after-read-number2 = c .before .before in
-    let after-member-run = after-read-number2 .before .before in
+    let after-case-number2 = c .before .before in
+    let after-member-run = after-case-number2 .before .before in
     let after-read-members = after-member-run .before .before in
     let after-member-count = after-read-members .before .before in
-    let after-read-number = after-member-count .before .before in
-    let member-count-is = sym (after-read-number .read-number .ensures .0) ∙ after-member-count .member-count .given .1 in
+    let after-case-number = after-member-count .before .before in
+    let member-count-is = sym (after-case-number .case-number .ensures .0) ∙ after-member-count .member-count .given .1 in
     let member-run-is = sym (after-read-members .read-members .ensures .0) ∙ after-member-run .member-run .given .1 in
-    let enum-told2-is = sym (after-read-number2 .read-number2 .ensures .0) ∙ c .enum-told2 .given .1 in
+    let enum-told2-is = sym (after-case-number2 .case-number2 .ensures .0) ∙ c .enum-told2 .given .1 in
     sym (rw (member-count-is, member-run-is, enum-told2-is))
 
 read-records-requires : tie.Need-read-records-requires
@@ -81,14 +81,14 @@ returns-4 c =
     let after-record-run2 = c .before in
     let after-read-records = after-record-run2 .before .before in
     let after-record-count = after-read-records .before .before in
-    let after-read-number2 = after-record-count .before .before in
-    let after-member-run = after-read-number2 .before .before in
+    let after-case-number2 = after-record-count .before .before in
+    let after-member-run = after-case-number2 .before .before in
     let after-read-members = after-member-run .before .before in
     let after-member-count = after-read-members .before .before in
-    let after-read-number = after-member-count .before .before in
-    let member-count-is = sym (after-read-number .read-number .ensures .0) ∙ after-member-count .member-count .given .1 in
+    let after-case-number = after-member-count .before .before in
+    let member-count-is = sym (after-case-number .case-number .ensures .0) ∙ after-member-count .member-count .given .1 in
     let member-run-is = sym (after-read-members .read-members .ensures .0) ∙ after-member-run .member-run .given .1 in
-    let record-count-is = sym (after-read-number2 .read-number2 .ensures .0) ∙ after-record-count .record-count .given .1 in
+    let record-count-is = sym (after-case-number2 .case-number2 .ensures .0) ∙ after-record-count .record-count .given .1 in
     let record-run2-is = sym (after-read-records .read-records .ensures .0) ∙ after-record-run2 .record-run2 .given .1 in
     sym (rw (member-count-is, member-run-is, record-count-is, record-run2-is))
 
@@ -98,14 +98,14 @@ returns-5 c =
     let after-record-run = c .before .before in
     let after-read-records = after-record-run .before .before in
     let after-record-count = after-read-records .before .before in
-    let after-read-number2 = after-record-count .before .before in
-    let after-member-run = after-read-number2 .before .before in
+    let after-case-number2 = after-record-count .before .before in
+    let after-member-run = after-case-number2 .before .before in
     let after-read-members = after-member-run .before .before in
     let after-member-count = after-read-members .before .before in
-    let after-read-number = after-member-count .before .before in
-    let member-count-is = sym (after-read-number .read-number .ensures .0) ∙ after-member-count .member-count .given .1 in
+    let after-case-number = after-member-count .before .before in
+    let member-count-is = sym (after-case-number .case-number .ensures .0) ∙ after-member-count .member-count .given .1 in
     let member-run-is = sym (after-read-members .read-members .ensures .0) ∙ after-member-run .member-run .given .1 in
-    let record-count-is = sym (after-read-number2 .read-number2 .ensures .0) ∙ after-record-count .record-count .given .1 in
+    let record-count-is = sym (after-case-number2 .case-number2 .ensures .0) ∙ after-record-count .record-count .given .1 in
     let record-run-is = sym (after-read-records .read-records .ensures .0) ∙ after-record-run .record-run .given .1 in
     let past = lt-ltb _ _ (c .if1 .taken) in
     sym (rw (member-count-is, member-run-is, record-count-is, record-run-is, past))
@@ -128,14 +128,14 @@ returns-6 c =
     let after-record-run = c .before .before in
     let after-read-records = after-record-run .before .before in
     let after-record-count = after-read-records .before .before in
-    let after-read-number2 = after-record-count .before .before in
-    let after-member-run = after-read-number2 .before .before in
+    let after-case-number2 = after-record-count .before .before in
+    let after-member-run = after-case-number2 .before .before in
     let after-read-members = after-member-run .before .before in
     let after-member-count = after-read-members .before .before in
-    let after-read-number = after-member-count .before .before in
-    let member-count-is = sym (after-read-number .read-number .ensures .0) ∙ after-member-count .member-count .given .1 in
+    let after-case-number = after-member-count .before .before in
+    let member-count-is = sym (after-case-number .case-number .ensures .0) ∙ after-member-count .member-count .given .1 in
     let member-run-is = sym (after-read-members .read-members .ensures .0) ∙ after-member-run .member-run .given .1 in
-    let record-count-is = sym (after-read-number2 .read-number2 .ensures .0) ∙ after-record-count .record-count .given .1 in
+    let record-count-is = sym (after-case-number2 .case-number2 .ensures .0) ∙ after-record-count .record-count .given .1 in
     let record-run-is = sym (after-read-records .read-records .ensures .0) ∙ after-record-run .record-run .given .1 in
     let whole = le-ltb _ _ (c .if1 .left) in
     sym (rw (member-count-is, member-run-is, record-count-is, record-run-is, whole))
@@ -144,7 +144,7 @@ pub read-tables-spec : {M : Type 1} → statement M
 read-tables-spec =
     tie.close
     (tie.spec
-    read-number-requires
+    case-number-requires
     enum-known-member-count
     enum-told
     returns
@@ -152,7 +152,7 @@ read-tables-spec =
     enum-known-member-run
     enum-known-member-run-2
     returns-2
-    read-number-requires-2
+    case-number-requires-2
     enum-known-record-count
     enum-told-2
     returns-3
