@@ -20,8 +20,8 @@ ghost use Rattle.block.specs.declared.Step.the-variants.{Goes, Passes};
 
 // So many members that a walk makes a table of them.
 const MANY: usize = 128;
-// The cells of the table: 512 buckets hold every pool index that an instruction can cite.
-const CELLS: usize = 1536;
+// The cells of the table: 1,024 buckets hold every pool index that an instruction can cite.
+const CELLS: usize = 3072;
 
 // What a walk answers.
 pub enum Walk {

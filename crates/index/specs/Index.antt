@@ -11,7 +11,7 @@ use Rattle.index.specs.declared.Rest.{Rest}
 
 -- the bucket of a pool index: so many indexes share one
 abbrev pub bucketOf : ℕ → ℕ
-bucketOf index = index / 128
+bucketOf index = index / 64
 
 -- what is left of so many members from a place on, whose indexes are above the last: from the first member on whose bucket is
 -- at least this one, or that can't be read

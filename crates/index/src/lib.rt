@@ -7,7 +7,7 @@ ghost use Rattle.casefile.specs.Member.{memberFound};
 ghost use Rattle.index.specs.Index.{skipped, Tabled, Indexed, foundBy};
 
 // How many pool indexes share a bucket.
-const WIDTH: usize = 128;
+const WIDTH: usize = 64;
 
 // What is left of a member run: where it begins, the pool index before it, and how many members it has.
 pub struct Rest {
