@@ -3,15 +3,15 @@
 use Prim.Native.Nat.{ℕ, zero, suc, _+_, _-_, _*_, _/_, _≤_, _<_}
 use native.Mathlib.Omega.{arith}
 use native.Mathlib.Numerals.{add-one}
-use mathlib.Core.Path.{_≡_, refl, sym, subst}
+use mathlib.Core.Path.{_≡_, _∙_, refl, sym, subst}
 use mathlib.Core.Bool.{Bool, true, false}
 use mathlib.Core.List.{List, [], _∷_}
 use lib.Dec.{eqb, ltb, leb}
 use lib.ListN.{length, getD, drop, length-drop, drop-of-length-le}
 use lib.Seq.{drop-cons}
-use borrow.Author.Tests.{lt-ltb, le-ltb, le-leb, lt-leb, eq-eqb, ne-eqb, eqb-true, eqb-false, leb-true, leb-false}
+use borrow.Author.Tests.{lt-ltb, le-ltb, le-leb, lt-leb, eq-eqb, ne-eqb, eqb-true, eqb-false, ltb-true, ltb-false, leb-true, leb-false}
 use Rattle.basics.specs.Choice.{pick}
-use Rattle.casefile.specs.Number.{greatest, further, grouped, numberFrom, limited, numberAt, numberWithin, thenNumber}
+use Rattle.casefile.specs.Number.{greatest, further, grouped, numberFrom, limited, numberAt, numberWithin, restWithin, thenNumber}
 use Rattle.casefile.specs.Text.{textAt, thenText, textWithin}
 use Rattle.casefile.specs.Layout.{Layout, number, text, ended, runBy, runWithin}
 use Rattle.casefile.specs.declared.Number.{Number}
@@ -62,6 +62,12 @@ number-within limit bytes at = of (numberFrom (drop at bytes) at) (from-within (
         by-test true e = (leb-true v limit e, omega arith, omega (arith, length-drop at bytes))
         by-test false e = tt
     of NotNumber h = tt
+
+-- an answer that is the definition's lies in the bytes as its numbers do
+pub whole :
+    (bytes : List ℕ) (at limit : ℕ) {r : Number} → r ≡ numberAt limit bytes at →
+    (r ≡ numberAt limit bytes at) × numberWithin limit (length bytes) at r
+whole bytes at limit e = kept (λ (n : Number). numberWithin limit (length bytes) at n) e (number-within limit bytes at)
 
 -- ---- a number by its first group
 
@@ -125,6 +131,30 @@ module _ (limit : ℕ) (bytes : List ℕ) (at : ℕ) (inside : at < length bytes
   number-more byte large =
       rw (from-more limit bytes at inside above)
       (limited-further limit (getD bytes at 0 - 128) (omega arith) (numberFrom (drop (at + 1) bytes) (at + 1)))
+
+-- one group above a limit below 128
+pub number-above :
+    (limit : ℕ) (bytes : List ℕ) (at : ℕ) → at < length bytes → limit < 128 → limit < getD bytes at 0 →
+    numberAt limit bytes at ≡ NotNumber
+number-above limit bytes at inside small over = by-test (ltb (getD bytes at 0) 128) refl
+  where
+    by-test : (t : Bool) → ltb (getD bytes at 0) 128 ≡ t → numberAt limit bytes at ≡ NotNumber
+    by-test true e =
+        number-one limit bytes at inside (ltb-true (getD bytes at 0) 128 e) ∙ rw (lt-leb (getD bytes at 0) limit over)
+    by-test false e = number-small limit bytes at inside (ltb-false (getD bytes at 0) 128 e) small
+
+-- a group with its top bit before a number of a known limit
+pub number-behind :
+    (limit inner : ℕ) (bytes : List ℕ) (at : ℕ) → at < length bytes → 128 ≤ getD bytes at 0 → getD bytes at 0 < 256 →
+    128 ≤ limit → (limit - (getD bytes at 0 - 128)) / 128 ≡ inner →
+    numberAt limit bytes at ≡ further (getD bytes at 0 - 128) (numberAt inner bytes (at + 1))
+number-behind limit inner bytes at inside above byte large e = rw (← e) (number-more limit bytes at inside above byte large)
+
+-- what follows a first group is at most 511
+pub rest-fits :
+    (limit size at : ℕ) (n : Number) → limit ≤ 511 → numberWithin limit size at n → restWithin n
+rest-fits limit size at (Value v next) small h = omega (arith, h .0)
+rest-fits limit size at NotNumber small h = tt
 
 -- ---- where texts and runs lie
 

@@ -145,13 +145,13 @@ fn joined(low: usize, rest: Number) -> Number
     requires { ⌜ (low < 128) × restWithin rest ⌝ }
     ensures { λ r. ⌜ r ≡ further low rest ⌝ }
 {
-    let Number::Value(high, next) = rest else {
+    let Number::Value(above, next) = rest else {
         return Number::NotNumber;
     };
-    if high == 0 {
+    if above == 0 {
         return Number::NotNumber;
     }
-    Number::Value(low + 128 * high, next)
+    Number::Value(low + 128 * above, next)
 }
 
 // The third group of a number of a case.

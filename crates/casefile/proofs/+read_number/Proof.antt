@@ -14,7 +14,7 @@ use Rattle.casefile.specs.declared.Number.{Number}
 use Rattle.casefile.specs.declared.Number.the-variants.{NotNumber}
 use Rattle.casefile.proofs.+read_number.{statement}
 use Rattle.casefile.proofs.+read_number.Tie.{close}
-use Rattle.casefile.proofs.Laws.{kept, number-within, number-past, number-one, number-small, number-more}
+use Rattle.casefile.proofs.Laws.{whole, number-past, number-one, number-small, number-more}
 use Rattle.casefile.proofs.read_number.Reads as read-number
 use Rattle.casefile.proofs.read_number.Kinds as read-number-kinds
 use Rattle.casefile.proofs.+read_number.Lts-read_number as read-number-lts
@@ -29,12 +29,6 @@ read-number-at t =
 abbrev read-number-below : ℕ → In 1 read-number-kinds.ps
 read-number-below t =
     and 1 read-number-kinds.ps (falls 1 read-number-kinds.ps _<_ μ-read-number t) read-number.Pre
-
--- an answer that is the definition's lies in the bytes as its numbers do
-whole :
-    (bytes : List ℕ) (at limit : ℕ) {r : Number} → r ≡ numberAt limit bytes at →
-    (r ≡ numberAt limit bytes at) × numberWithin limit (length bytes) at r
-whole bytes at limit e = kept (λ (n : Number). numberWithin limit (length bytes) at n) e (number-within limit bytes at)
 
 -- with more than one group, what the groups behind the first answer decides
 more :

@@ -1,46 +1,65 @@
+-- `casefile::case_number` meets its contract. What follows the first group has at most 511, and is read by itself.
+-- Assumes nothing.
+use Prim.Native.Nat.{_+_}
+use native.Mathlib.Omega.{arith}
+use mathlib.Core.Path.{_∙_, sym, ap}
+use lib.ListN.{length, getD}
 use borrow.Author.Needs.{needs}
+use borrow.Author.Tests.{le-leb}
+use Rattle.casefile.specs.Number.{greatest, further}
+use Rattle.casefile.proofs.Laws.{whole, number-past, number-one, number-behind, rest-fits}
 use Rattle.casefile.proofs.case_number.Statement.{statement}
 use Rattle.casefile.proofs.case_number.Tie as tie
-use Rattle.casefile.proofs.case_number.Reads as reads
-use Rattle.casefile.proofs.case_number.Lts as lts
-use Rattle.casefile.proofs.joined.Reads as joined-reads
-use Rattle.casefile.proofs.second_group.Reads as second-group-reads
 
--- src/lib.rt:190:9
 returns : tie.Need-returns
-returns c = ?
+returns c =
+    let a = c .before .before .args in
+    whole (a .bytes .now) (a .at) greatest (sym (number-past greatest (a .bytes .now) (a .at) (c .if1 .taken)))
 
--- src/lib.rt:192:17
 shared-slice-read-group : tie.Need-shared-slice-read-group
 shared-slice-read-group c = search needs
 
--- src/lib.rt:192:17
 cast-group : tie.Need-cast-group
-cast-group c = ?
+cast-group c = omega (arith, c .shared-slice-known2 .given (c .before .before .before .args .at))
 
--- src/lib.rt:194:37
 add-t8 : tie.Need-add-t8
 add-t8 c = search needs
 
--- src/lib.rt:194:9
 returns-2 : tie.Need-returns-2
-returns-2 c = ?
+returns-2 c =
+    let after-if1 = c .before .before in
+    let a = after-if1 .before .before .args in
+    whole (a .bytes .now) (a .at) greatest
+    (sym (rw (number-one greatest (a .bytes .now) (a .at) (after-if1 .if1 .left) (c .if2 .taken), le-leb (getD (a .bytes .now) (a .at) 0) greatest (omega arith))))
 
--- src/lib.rt:196:45
 add-second-group : tie.Need-add-second-group
 add-second-group c = search needs
 
--- src/lib.rt:196:25
 second-group-requires : tie.Need-second-group-requires
 second-group-requires c κs = search needs
 
--- src/lib.rt:196:5
 joined-requires : tie.Need-joined-requires
-joined-requires c κs = ?
+joined-requires c κs =
+    let known = c .before .before in
+    let a = known .before .before .before .args in
+    let byte = known .shared-slice-known2 .given (a .at) in (
+      omega (arith, byte),
+      rest-fits 511 (length (a .bytes .now)) (a .at + 1) (c .second-group .result) (omega arith) (c .second-group .ensures .1),
+    )
 
--- src/lib.rt:186:1
 returns-3 : tie.Need-returns-3
-returns-3 c = ?
+returns-3 c =
+    let after-rest = c .before in
+    let after-if2 = after-rest .before in
+    let after-if1 = after-if2 .before .before in
+    let a = after-if1 .before .before .args in
+    let byte = after-if2 .before .shared-slice-known2 .given (a .at) in
+    whole (a .bytes .now) (a .at) greatest
+    (c .joined .ensures
+    ∙ ap (further _) (after-rest .second-group .ensures .0)
+    ∙ sym
+    (number-behind greatest 511 (a .bytes .now) (a .at) (after-if1 .if1 .left) (after-if2 .if2 .left) (omega (arith, byte))
+    (omega arith) (omega (arith, byte))))
 
 pub case-number-spec : {M : Type 1} → statement M
 case-number-spec =

@@ -1,36 +1,38 @@
+-- `casefile::joined` meets its contract. The sum fits, since the number behind is at most 511.
+-- Assumes nothing.
+use native.Mathlib.Omega.{arith}
+use mathlib.Core.Path.{sym}
 use borrow.Author.Needs.{needs}
+use borrow.Author.Tests.{ne-eqb}
+use Rattle.casefile.specs.Number.{restWithin}
+use Rattle.casefile.specs.declared.Number.the-variants.{Value}
 use Rattle.casefile.proofs.joined.Statement.{statement}
 use Rattle.casefile.proofs.joined.Tie as tie
-use Rattle.casefile.proofs.joined.Reads as reads
-use Rattle.casefile.proofs.joined.Lts as lts
 
--- src/lib.rt:148:23
 enum-known-rest : tie.Need-enum-known-rest
 enum-known-rest c = search needs
 
--- src/lib.rt:149:9
 enum-told : tie.Need-enum-told
 enum-told c = search needs
 
--- src/lib.rt:149:9
 returns : tie.Need-returns
 returns c = search needs
 
--- src/lib.rt:152:9
 returns-2 : tie.Need-returns-2
 returns-2 c = search needs
 
--- src/lib.rt:154:25
+-- the number behind the low group
+fits : (c : tie.After-known-told) → restWithin (Value (c .before .rest .given .0 .0) (c .before .rest .given .0 .1 .0))
+fits c = rw (c .before .rest .given .1) at (c .before .before .before .pre .1)
+
 mul-t6 : tie.Need-mul-t6
-mul-t6 c = ?
+mul-t6 c = omega (arith, fits (c .before))
 
--- src/lib.rt:154:19
 add-t7 : tie.Need-add-t7
-add-t7 c = ?
+add-t7 c = omega (arith, fits (c .before))
 
--- src/lib.rt:144:1
 returns-3 : tie.Need-returns-3
-returns-3 c = ?
+returns-3 c = sym (rw (c .before .before .rest .given .1, ne-eqb _ _ (c .if1 .left)))
 
 pub joined-spec : {M : Type 1} → statement M
 joined-spec =

@@ -1,32 +1,37 @@
+-- `casefile::third_group` meets its contract. A third group above 3 passes 65,535.
+-- Assumes nothing.
+use native.Mathlib.Omega.{arith}
+use mathlib.Core.Path.{sym}
 use borrow.Author.Needs.{needs}
+use borrow.Author.Tests.{le-leb}
+use Rattle.casefile.proofs.Laws.{whole, number-past, number-one, number-above}
 use Rattle.casefile.proofs.third_group.Statement.{statement}
 use Rattle.casefile.proofs.third_group.Tie as tie
-use Rattle.casefile.proofs.third_group.Reads as reads
-use Rattle.casefile.proofs.third_group.Lts as lts
 
--- src/lib.rt:162:9
 returns : tie.Need-returns
-returns c = ?
+returns c =
+    let a = c .before .args in
+    whole (a .bytes .now) (a .at) 3 (sym (number-past 3 (a .bytes .now) (a .at) (c .if1 .taken)))
 
--- src/lib.rt:164:17
 shared-slice-read-group : tie.Need-shared-slice-read-group
 shared-slice-read-group c = search needs
 
--- src/lib.rt:164:17
 cast-group : tie.Need-cast-group
-cast-group c = ?
+cast-group c = omega (arith, c .shared-slice-known .given (c .before .before .args .at))
 
--- src/lib.rt:166:9
 returns-2 : tie.Need-returns-2
-returns-2 c = ?
+returns-2 c =
+    let a = c .before .before .before .args in
+    whole (a .bytes .now) (a .at) 3 (sym (number-above 3 (a .bytes .now) (a .at) (c .before .before .if1 .left) (omega arith) (c .if2 .taken)))
 
--- src/lib.rt:168:26
 add-t4 : tie.Need-add-t4
 add-t4 c = search needs
 
--- src/lib.rt:158:1
 returns-3 : tie.Need-returns-3
-returns-3 c = ?
+returns-3 c =
+    let a = c .before .before .before .args in
+    whole (a .bytes .now) (a .at) 3
+    (sym (rw (number-one 3 (a .bytes .now) (a .at) (c .before .before .if1 .left) (omega arith), le-leb _ _ (c .if2 .left))))
 
 pub third-group-spec : {M : Type 1} → statement M
 third-group-spec =
