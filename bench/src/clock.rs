@@ -4,8 +4,8 @@ use std::time::Instant;
 
 /// A batch lasts at least this long, in nanoseconds.
 const BATCH: f64 = 20_000.0;
-/// A call that lasts this long is measured twice at most.
-const LONG: f64 = 100_000_000.0;
+/// A call that lasts this long is measured once: a second.
+const LONG: f64 = 1e9;
 
 /// Nanoseconds of one call on each side: the least of all batches.
 #[derive(Clone, Copy)]
@@ -30,26 +30,29 @@ fn batch<T>(calls: usize, call: &mut impl FnMut() -> T) -> f64 {
     start.elapsed().as_nanos() as f64 / calls as f64
 }
 
-/// How many calls make a batch.
-fn calls_for<T>(call: &mut impl FnMut() -> T) -> usize {
+/// How many calls make a batch, and the nanoseconds of one in the first that was long enough.
+fn calls_for<T>(call: &mut impl FnMut() -> T) -> (usize, f64) {
     let mut calls = 1;
-    while batch(calls, call) * (calls as f64) < BATCH {
+    loop {
+        let ns = batch(calls, call);
+        if ns * calls as f64 >= BATCH {
+            return (calls, ns);
+        }
         calls *= 2;
     }
-    calls
 }
 
-/// Both sides, in turns.
+/// Both sides, in turns. Where a call is long, the first batch is all.
 pub fn alternate<A, B>(rounds: usize, mut library: impl FnMut() -> A, mut rust: impl FnMut() -> B) -> Times {
-    let library_calls = calls_for(&mut library);
-    let rust_calls = calls_for(&mut rust);
-    let mut least = Times { library: f64::INFINITY, rust: f64::INFINITY };
-    for round in 0..rounds {
+    let (library_calls, library_first) = calls_for(&mut library);
+    let (rust_calls, rust_first) = calls_for(&mut rust);
+    let mut least = Times { library: library_first, rust: rust_first };
+    if least.library + least.rust > LONG {
+        return least;
+    }
+    for _ in 0..rounds {
         least.library = least.library.min(batch(library_calls, &mut library));
         least.rust = least.rust.min(batch(rust_calls, &mut rust));
-        if round == 1 && least.library + least.rust > LONG {
-            break;
-        }
     }
     least
 }

@@ -70,7 +70,7 @@ fn scans(rounds: usize, progress: &mut impl FnMut(&str)) -> Curve {
 pub fn curves(rounds: usize, progress: &mut impl FnMut(&str)) -> Vec<Curve> {
     vec![
         reports("report, straight-line code", |bytes| made::straight_of(1, bytes), rounds, progress),
-        reports("report, branchy code", made::scattered_of, rounds, progress),
+        reports("report, code full of calls", |bytes| made::straight_of(3, bytes), rounds, progress),
         scans(rounds, progress),
     ]
 }
