@@ -56,3 +56,21 @@ pub fn alternate<A, B>(rounds: usize, mut library: impl FnMut() -> A, mut rust: 
     }
     least
 }
+
+/// One side alone: the least of some batches.
+pub fn alone<T>(rounds: usize, mut call: impl FnMut() -> T) -> f64 {
+    let (calls, first) = calls_for(&mut call);
+    (0..rounds).map(|_| batch(calls, &mut call)).fold(first, f64::min)
+}
+
+/// Nanoseconds of one call, timed by itself.
+pub fn once<T>(call: impl FnOnce() -> T) -> f64 {
+    let start = Instant::now();
+    black_box(call());
+    start.elapsed().as_nanos() as f64
+}
+
+/// Nanoseconds of timing nothing, which a call timed by itself is charged for.
+pub fn of_nothing() -> f64 {
+    (0..10_000).map(|_| once(|| ())).sum::<f64>() / 10_000.0
+}

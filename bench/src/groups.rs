@@ -1,6 +1,6 @@
 //! The groups of cases, and how a group is measured.
 use crate::classfile::Members;
-use crate::clock::{alternate, Times};
+use crate::clock::{alternate, of_nothing, once, Times};
 use crate::made;
 use crate::pair::{Lent, Pair};
 use crate::real;
@@ -11,6 +11,8 @@ use std::path::Path;
 /// Cases of one kind, and the cells that are lent for each.
 pub struct Group {
     pub name: String,
+    /// Whether the cases are of class files; these are also timed in turn.
+    pub real: bool,
     pub cells: usize,
     pub pairs: Vec<Pair>,
 }
@@ -31,19 +33,20 @@ const USUAL: usize = 64;
 const PROGRAM: usize = 4_096;
 
 fn group(name: &str, cells: usize, cases: Vec<Case>) -> Group {
-    Group { name: name.to_string(), cells, pairs: cases.iter().filter_map(Pair::alone).collect() }
+    Group { name: name.to_string(), real: false, cells, pairs: cases.iter().filter_map(Pair::alone).collect() }
 }
 
 /// The groups from class files below a folder.
 fn real_groups(name: &str, folder: &Path, plan: &Plan) -> Vec<Group> {
     let with = |what: &str, cells, members| Group {
         name: format!("{name}, {what}"),
+        real: true,
         cells,
         pairs: real::sample(folder, plan.sample, members),
     };
     vec![
         with("cited members", USUAL, Members::Cited),
-        with("cited members, npe's stack", PROGRAM, Members::Cited),
+        with("npe's stack", PROGRAM, Members::Cited),
         with("whole table", USUAL, Members::Whole),
     ]
 }
@@ -91,6 +94,35 @@ pub fn time(pair: &Pair, lent: &mut Lent, rounds: usize) -> Times {
         },
         || pair.rust(),
     )
+}
+
+/// Times each case of a group once in a round, the whole group on one side and then on the other, so that a case finds the caches
+/// and branch predictors as the other cases left them. The least of the rounds counts, without the time of timing.
+pub fn measure_in_turn(group: &Group, rounds: usize, progress: &mut impl FnMut(&str)) -> Row {
+    let mut lent = Lent::cells(group.cells);
+    let pairs: Vec<&Pair> = group.pairs.iter().filter(|pair| pair.agrees(&mut lent)).collect();
+    let timing = of_nothing();
+    let mut times = vec![Times { library: f64::INFINITY, rust: f64::INFINITY }; pairs.len()];
+    for round in 0..rounds {
+        progress(&format!("{}, in turn: round {} of {rounds}", group.name, round + 1));
+        for (pair, times) in pairs.iter().zip(&mut times) {
+            let ns = once(|| {
+                std::hint::black_box(pair.library(&mut lent));
+            });
+            times.library = times.library.min((ns - timing).max(1.0));
+        }
+        for (pair, times) in pairs.iter().zip(&mut times) {
+            pair.enter();
+            times.rust = times.rust.min((once(|| pair.rust()) - timing).max(1.0));
+        }
+    }
+    Row {
+        name: format!("{}, in turn", group.name),
+        cells: group.cells,
+        case_bytes: median(pairs.iter().map(|pair| pair.case.len() as f64)),
+        differing: group.pairs.len() - pairs.len(),
+        times,
+    }
 }
 
 /// Times a group, case by case.

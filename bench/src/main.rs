@@ -11,6 +11,7 @@ mod groups;
 mod growth;
 mod made;
 mod pair;
+mod parts;
 mod plot;
 mod real;
 mod table;
@@ -53,10 +54,37 @@ fn progress(words: &str) {
     let _ = stderr().flush();
 }
 
-/// Everything that was measured, as markdown.
-fn measured(plan: &Plan, rows: &[groups::Row], curves: &[growth::Curve], hostile: &[growth::Hostile]) -> String {
-    let mut text = table::groups(rows);
-    text += "\nTimes are medians of a group's cases. A ratio is the Rust's time over the library's, so above 1 the library is faster; the\nworst is a group's lowest.\n";
+/// What was measured.
+struct Results {
+    rows: Vec<groups::Row>,
+    parts: Vec<(String, parts::Parts)>,
+    curves: Vec<growth::Curve>,
+    hostile: Vec<growth::Hostile>,
+}
+
+/// The lines of a group.
+fn rows_of(group: &groups::Group, plan: &Plan) -> Vec<groups::Row> {
+    let mut rows = vec![groups::measure(group, plan.rounds, &mut progress)];
+    if group.real {
+        rows.push(groups::measure_in_turn(group, plan.rounds, &mut progress));
+    }
+    rows
+}
+
+fn measure(plan: &Plan) -> Results {
+    progress("preparing the cases");
+    let groups = groups::all(plan);
+    Results {
+        rows: groups.iter().flat_map(|group| rows_of(group, plan)).collect(),
+        parts: groups.iter().map(|group| (group.name.clone(), parts::of_group(group, 3, &mut progress))).collect(),
+        curves: growth::curves(plan.rounds, &mut progress),
+        hostile: growth::hostile(plan.hostile, plan.rounds, &mut progress),
+    }
+}
+
+/// What is left out, and whether the messages agreed.
+fn notes(plan: &Plan, rows: &[groups::Row]) -> String {
+    let mut text = String::new();
     for (folder, what) in [(&plan.jdk, "the JDK's faults"), (&plan.examples, "the examples' faults")] {
         if folder.is_none() {
             text += &format!("Left out, without a JDK: {what}.\n");
@@ -64,31 +92,41 @@ fn measured(plan: &Plan, rows: &[groups::Row], curves: &[growth::Curve], hostile
     }
     let differing: usize = rows.iter().map(|row| row.differing).sum();
     text += &format!("Cases on which the messages differ: {differing}.\n");
-    text += "\n### Growth with the code\n\n";
-    text += &table::growth(curves);
-    text += "\n";
-    text += &table::points(curves);
-    text += "\n### Hostile tables\n\n";
-    text += &table::hostile(hostile);
     if plan.quick {
-        text += "\nA quick run: fewer cases, fewer batches, shorter tables.\n";
+        text += "A quick run: fewer cases, fewer batches, shorter tables.\n";
     }
     text
 }
 
+/// The results as markdown.
+fn page(plan: &Plan, results: &Results) -> String {
+    [
+        &table::groups(&results.rows),
+        "\nTimes are medians of a group's cases. A ratio is the Rust's time over the library's: above 1 the library is faster. The\n",
+        "worst ratio is a group's lowest.\n",
+        &notes(plan, &results.rows),
+        "\n### Where the library's time goes\n\n",
+        &table::parts(&results.parts),
+        "\nThe rest is decoding the fault, naming the local, measuring the message and writing it. Medians, each of its own.\n",
+        "\n### Growth with the code\n\n",
+        &table::growth(&results.curves),
+        "\n",
+        &table::points(&results.curves),
+        "\n### Hostile tables\n\n",
+        &table::hostile(&results.hostile),
+    ]
+    .concat()
+}
+
 /// Measures all and writes table.md and growth.svg to a folder.
 fn run(plan: &Plan, to: &Path) -> std::io::Result<()> {
-    progress("preparing the cases");
-    let groups = groups::all(plan);
-    let rows: Vec<groups::Row> = groups.iter().map(|group| groups::measure(group, plan.rounds, &mut progress)).collect();
-    let curves = growth::curves(plan.rounds, &mut progress);
-    let hostile = growth::hostile(plan.hostile, plan.rounds, &mut progress);
+    let results = measure(plan);
     progress("done");
     eprintln!();
-    let text = measured(plan, &rows, &curves, &hostile);
+    let text = page(plan, &results);
     println!("{text}");
     fs::write(to.join("table.md"), &text)?;
-    fs::write(to.join("growth.svg"), plot::svg(&curves))
+    fs::write(to.join("growth.svg"), plot::svg(&results.curves))
 }
 
 /// The arguments: `quick` or `full`, the folder to write to, then `jdk=FOLDER` and `examples=FOLDER` where there are class files.

@@ -1,6 +1,7 @@
 //! The tables, as markdown that reads as plain text too.
 use crate::growth::{Curve, Hostile};
 use crate::groups::{median, Row};
+use crate::parts::Parts;
 
 /// Nanoseconds with their unit, three digits or so.
 pub fn duration(ns: f64) -> String {
@@ -131,4 +132,14 @@ pub fn hostile(tables: &[Hostile]) -> String {
         ]
     };
     laid_out(&head, &tables.iter().map(cells).collect::<Vec<_>>())
+}
+
+/// One line a group: its medians, so the parts add up to the whole only roughly.
+pub fn parts(groups: &[(String, Parts)]) -> String {
+    let head = ["group", "report", "reading the case", "leader scan", "walk", "rest"];
+    let cells = |(name, parts): &(String, Parts)| {
+        let figures = [parts.report, parts.reading, parts.scan, parts.walk, parts.rest];
+        [name.clone()].into_iter().chain(figures.map(|ns| duration(ns.max(0.0)))).collect()
+    };
+    laid_out(&head, &groups.iter().map(cells).collect::<Vec<_>>())
 }
