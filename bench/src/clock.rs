@@ -1,6 +1,30 @@
-//! Times two sides by alternating batches.
+//! Times two sides by alternating batches. A batch is timed by the processor's time of this thread, so that other processes on the
+//! machine count little; a single call by the clock, whose reading is cheaper.
 use std::hint::black_box;
 use std::time::Instant;
+
+/// The C library's time of a clock, on a machine of 64 bits.
+#[repr(C)]
+struct Timespec {
+    seconds: i64,
+    nanoseconds: i64,
+}
+
+/// Linux's clock of the calling thread's processor time.
+const THREAD_TIME: i32 = 3;
+
+extern "C" {
+    fn clock_gettime(clock: i32, time: *mut Timespec) -> i32;
+}
+
+/// Nanoseconds of processor time that this thread has used.
+fn thread_time() -> f64 {
+    let mut time = Timespec { seconds: 0, nanoseconds: 0 };
+    // SAFETY: the C library writes one Timespec to a place that is ours.
+    let failed = unsafe { clock_gettime(THREAD_TIME, &mut time) } != 0;
+    assert!(!failed, "there is no clock of a thread's time");
+    time.seconds as f64 * 1e9 + time.nanoseconds as f64
+}
 
 /// A batch lasts at least this long, in nanoseconds.
 const BATCH: f64 = 20_000.0;
@@ -23,11 +47,11 @@ impl Times {
 
 /// Nanoseconds of one call in a batch of so many.
 fn batch<T>(calls: usize, call: &mut impl FnMut() -> T) -> f64 {
-    let start = Instant::now();
+    let start = thread_time();
     for _ in 0..calls {
         black_box(call());
     }
-    start.elapsed().as_nanos() as f64 / calls as f64
+    (thread_time() - start) / calls as f64
 }
 
 /// How many calls make a batch, and the nanoseconds of one in the first that was long enough.
@@ -70,7 +94,10 @@ pub fn once<T>(call: impl FnOnce() -> T) -> f64 {
     start.elapsed().as_nanos() as f64
 }
 
-/// Nanoseconds of timing nothing, which a call timed by itself is charged for.
+/// Nanoseconds of timing nothing, which a call timed by itself is charged for: the median, since a mean would hold the time of other
+/// processes.
 pub fn of_nothing() -> f64 {
-    (0..10_000).map(|_| once(|| ())).sum::<f64>() / 10_000.0
+    let mut times: Vec<f64> = (0..10_001).map(|_| once(|| ())).collect();
+    times.sort_by(f64::total_cmp);
+    times[times.len() / 2]
 }
