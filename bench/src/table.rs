@@ -1,0 +1,145 @@
+//! The tables, as markdown that reads as plain text too.
+use crate::growth::{Curve, Hostile};
+use crate::groups::{median, Row};
+use crate::parts::Parts;
+
+/// Nanoseconds with their unit, three digits or so.
+pub fn duration(ns: f64) -> String {
+    let (figure, unit) = match ns {
+        ns if ns < 1e3 => (ns, "ns"),
+        ns if ns < 1e6 => (ns / 1e3, "us"),
+        ns if ns < 1e9 => (ns / 1e6, "ms"),
+        ns => (ns / 1e9, "s"),
+    };
+    if figure < 10.0 {
+        format!("{figure:.2} {unit}")
+    } else if figure < 100.0 {
+        format!("{figure:.1} {unit}")
+    } else {
+        format!("{figure:.0} {unit}")
+    }
+}
+
+/// A ratio, two digits behind the point unless it is large or small.
+fn ratio(figure: f64) -> String {
+    match figure {
+        figure if figure >= 100.0 => format!("{figure:.0}"),
+        figure if figure >= 0.1 => format!("{figure:.2}"),
+        figure => format!("{figure:.5}"),
+    }
+}
+
+/// A whole number with commas.
+fn grouped(number: usize) -> String {
+    let digits = number.to_string();
+    let mut text = String::new();
+    for (place, digit) in digits.chars().enumerate() {
+        if place > 0 && (digits.len() - place) % 3 == 0 {
+            text.push(',');
+        }
+        text.push(digit);
+    }
+    text
+}
+
+/// A markdown table whose columns are padded to one width.
+fn laid_out(head: &[&str], rows: &[Vec<String>]) -> String {
+    let width = |column: usize| rows.iter().map(|row| row[column].len()).chain([head[column].len()]).max().unwrap_or(0);
+    let widths: Vec<usize> = (0..head.len()).map(width).collect();
+    let line = |cells: Vec<&str>| {
+        let padded = cells.iter().zip(&widths).enumerate().map(|(column, (cell, width))| match column {
+            0 => format!("{cell:<width$}"),
+            _ => format!("{cell:>width$}"),
+        });
+        format!("| {} |\n", padded.collect::<Vec<_>>().join(" | "))
+    };
+    let rule = |column: usize| "-".repeat(widths[column] + 1) + if column == 0 { "-" } else { ":" };
+    let mut text = line(head.to_vec());
+    text += &format!("|{}|\n", (0..head.len()).map(rule).collect::<Vec<_>>().join("|"));
+    for row in rows {
+        text += &line(row.iter().map(String::as_str).collect());
+    }
+    text
+}
+
+/// One line a group.
+pub fn groups(rows: &[Row]) -> String {
+    let head = ["group", "cases", "cells lent", "case bytes", "library", "Rust", "ratio", "worst ratio"];
+    let cells = |row: &Row| {
+        vec![
+            row.name.clone(),
+            grouped(row.times.len()),
+            grouped(row.cells),
+            grouped(row.case_bytes as usize),
+            duration(median(row.times.iter().map(|times| times.library))),
+            duration(median(row.times.iter().map(|times| times.rust))),
+            ratio(median(row.times.iter().map(|times| times.ratio()))),
+            ratio(row.times.iter().map(|times| times.ratio()).fold(f64::INFINITY, f64::min)),
+        ]
+    };
+    laid_out(&head, &rows.iter().map(cells).collect::<Vec<_>>())
+}
+
+/// One line a curve, first point to last.
+pub fn growth(curves: &[Curve]) -> String {
+    let head = ["what", "from", "to", "code grows by", "library's time by", "Rust's time by"];
+    let cells = |curve: &Curve| {
+        let (code, library, rust) = curve.growth()?;
+        Some(vec![
+            curve.name.to_string(),
+            grouped(curve.points.first()?.bytes),
+            grouped(curve.points.last()?.bytes),
+            ratio(code),
+            ratio(library),
+            ratio(rust),
+        ])
+    };
+    laid_out(&head, &curves.iter().filter_map(cells).collect::<Vec<_>>())
+}
+
+/// One line a point of every curve.
+pub fn points(curves: &[Curve]) -> String {
+    let head = ["what", "bytes of code", "library", "Rust", "ratio"];
+    let cells = |curve: &Curve| {
+        let line = |point: &crate::growth::Point| {
+            vec![
+                curve.name.to_string(),
+                grouped(point.bytes),
+                duration(point.times.library),
+                duration(point.times.rust),
+                ratio(point.times.ratio()),
+            ]
+        };
+        curve.points.iter().map(line).collect::<Vec<_>>()
+    };
+    laid_out(&head, &curves.iter().flat_map(cells).collect::<Vec<_>>())
+}
+
+/// One line a hostile table.
+pub fn hostile(tables: &[Hostile]) -> String {
+    let head = ["what", "members", "library", "with one", "library's factor", "Rust", "with one", "Rust's factor", "ratio"];
+    let cells = |table: &Hostile| {
+        vec![
+            table.name.to_string(),
+            grouped(usize::from(table.members)),
+            duration(table.many.library),
+            duration(table.one.library),
+            ratio(table.many.library / table.one.library),
+            duration(table.many.rust),
+            duration(table.one.rust),
+            ratio(table.many.rust / table.one.rust),
+            ratio(table.many.ratio()),
+        ]
+    };
+    laid_out(&head, &tables.iter().map(cells).collect::<Vec<_>>())
+}
+
+/// One line a group: its medians, so the parts add up to the whole only roughly.
+pub fn parts(groups: &[(String, Parts)]) -> String {
+    let head = ["group", "report", "reading the case", "leader scan", "walk", "rest"];
+    let cells = |(name, parts): &(String, Parts)| {
+        let figures = [parts.report, parts.reading, parts.scan, parts.walk, parts.rest];
+        [name.clone()].into_iter().chain(figures.map(|ns| duration(ns.max(0.0)))).collect()
+    };
+    laid_out(&head, &groups.iter().map(cells).collect::<Vec<_>>())
+}
