@@ -84,16 +84,23 @@ pub fn median(figures: impl Iterator<Item = f64>) -> f64 {
     sorted.get(sorted.len() / 2).copied().unwrap_or(0.0)
 }
 
+/// What the Rust starts from. The library always starts from the bytes of a case.
+#[derive(Clone, Copy, PartialEq)]
+pub enum Start {
+    Prepared,
+    Bytes,
+}
+
 /// Times one case on both sides.
-pub fn time(pair: &Pair, lent: &mut Lent, rounds: usize) -> Times {
+pub fn time(pair: &Pair, start: Start, lent: &mut Lent, rounds: usize) -> Times {
     pair.enter();
-    alternate(
-        rounds,
-        || {
-            std::hint::black_box(pair.library(lent));
-        },
-        || pair.rust(),
-    )
+    let library = || {
+        std::hint::black_box(pair.library(lent));
+    };
+    match start {
+        Start::Prepared => alternate(rounds, library, || pair.rust()),
+        Start::Bytes => alternate(rounds, library, || pair.rust_from_bytes()),
+    }
 }
 
 /// Times each case of a group once in a round, the whole group on one side and then on the other, so that a case finds the caches
@@ -126,20 +133,21 @@ pub fn measure_in_turn(group: &Group, rounds: usize, progress: &mut impl FnMut(&
 }
 
 /// Times a group, case by case.
-pub fn measure(group: &Group, rounds: usize, progress: &mut impl FnMut(&str)) -> Row {
+pub fn measure(group: &Group, start: Start, rounds: usize, progress: &mut impl FnMut(&str)) -> Row {
     let mut lent = Lent::cells(group.cells);
     let mut times = Vec::new();
     let mut differing = 0;
     for (place, pair) in group.pairs.iter().enumerate() {
         progress(&format!("{}: case {} of {}", group.name, place + 1, group.pairs.len()));
         if pair.agrees(&mut lent) {
-            times.push(time(pair, &mut lent, rounds));
+            times.push(time(pair, start, &mut lent, rounds));
         } else {
             differing += 1;
         }
     }
+    let from = if start == Start::Bytes { ", both from bytes" } else { "" };
     Row {
-        name: group.name.clone(),
+        name: format!("{}{from}", group.name),
         cells: group.cells,
         case_bytes: median(group.pairs.iter().map(|pair| pair.case.len() as f64)),
         times,

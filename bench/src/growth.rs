@@ -1,6 +1,6 @@
 //! How time grows: with the code, by report to 64 KiB and by the leader's scan to 1 MiB; and with the member table.
 use crate::clock::{alternate, Times};
-use crate::groups::time;
+use crate::groups::{time, Start};
 use crate::made;
 use crate::pair::{Lent, Pair};
 use korsepal::Case;
@@ -42,7 +42,7 @@ fn reports(name: &'static str, made: fn(usize) -> Case, rounds: usize, progress:
     for bytes in doublings(1 << 16, made::LONGEST) {
         progress(&format!("{name}, {bytes} bytes"));
         if let Some(pair) = Pair::alone(&made(bytes)) {
-            points.push(Point { bytes: pair.code().len(), times: time(&pair, &mut lent, rounds) });
+            points.push(Point { bytes: pair.code().len(), times: time(&pair, Start::Prepared, &mut lent, rounds) });
         }
     }
     Curve { name, points }
@@ -98,8 +98,8 @@ fn hostile_of(
     agree.then(|| Hostile {
         name,
         members,
-        many: time(&many, &mut lent, rounds),
-        one: time(&one, &mut lent, rounds),
+        many: time(&many, Start::Prepared, &mut lent, rounds),
+        one: time(&one, Start::Prepared, &mut lent, rounds),
     })
 }
 

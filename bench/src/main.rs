@@ -1,8 +1,9 @@
 //! bench: the proved library and the unchanged Rust, in one process and one run, in alternating batches.
 //!
 //! The library starts from the bytes of a case: it reads and checks all of them, and clears the whole lent stack. The Rust starts
-//! from prepared objects (the method with its code and records, the members in hash maps), which it is not charged for; it
-//! allocates and frees its sets, lists and strings. Both end with the message, and a case is timed only where the messages agree.
+//! from the same bytes, which a plain reader turns into its objects; or, in lines of their own, from prepared objects (the method
+//! with its code and records, the members in hash maps), which it is not charged for. It allocates and frees its sets, lists and
+//! strings. Both end with the message, and a case is timed only where the messages agree.
 #[allow(dead_code)]
 #[path = "../../compare/src/classfile.rs"]
 mod classfile;
@@ -13,6 +14,7 @@ mod made;
 mod pair;
 mod parts;
 mod plot;
+mod reading;
 mod real;
 mod table;
 
@@ -64,7 +66,9 @@ struct Results {
 
 /// The lines of a group.
 fn rows_of(group: &groups::Group, plan: &Plan) -> Vec<groups::Row> {
-    let mut rows = vec![groups::measure(group, plan.rounds, &mut progress)];
+    let starts = [groups::Start::Bytes, groups::Start::Prepared];
+    let mut rows: Vec<groups::Row> =
+        starts.iter().map(|&start| groups::measure(group, start, plan.rounds, &mut progress)).collect();
     if group.real {
         rows.push(groups::measure_in_turn(group, plan.rounds, &mut progress));
     }

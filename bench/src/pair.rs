@@ -1,4 +1,5 @@
 //! One case, ready for both sides: its bytes for the library, prepared objects for the Rust.
+use crate::reading::objects;
 use korsepal::{report, Answer, Case, Kind, Member};
 use oracle_wrapped::{accessors, enter, CodeContext, Info, JavaMethod, LocalVariableInfo, Pool};
 use std::rc::Rc;
@@ -53,10 +54,20 @@ impl Pair {
         accessors::build_message(&self.method, self.fault)
     }
 
+    /// The Rust's answer from the same bytes as the library's: its objects are made first.
+    pub fn rust_from_bytes(&self) -> Option<String> {
+        let (method, fault, pool) = objects(&self.case)?;
+        enter(Rc::new(pool));
+        accessors::build_message(&method, fault)
+    }
+
     /// Whether both sides give the same message.
     pub fn agrees(&self, lent: &mut Lent) -> bool {
         self.enter();
         let expected = self.rust();
+        if self.rust_from_bytes() != expected {
+            return false;
+        }
         match self.library(lent) {
             Answer::Message { text, .. } => expected.as_deref().map(str::as_bytes) == Some(text),
             _ => false,
