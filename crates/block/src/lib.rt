@@ -9,6 +9,7 @@ ghost use lib.Dec.{leb};
 ghost use lib.ListN.{length, take, replicate};
 ghost use Rattle.basics.specs.Bytes.{byteAt};
 ghost use Rattle.basics.specs.Choice.{pick};
+ghost use Rattle.bytecode.specs.Length.{FixedLengths};
 ghost use Rattle.index.specs.Index.{Indexed};
 ghost use Rattle.effects.specs.Lookup.{lookupIn};
 ghost use Rattle.effects.specs.Rows.{rowOf, aload as aloadRow, gets as getsRow, calls as callsRow};
@@ -413,6 +414,7 @@ fn land(pc: usize, fault: usize, size: usize, height: usize) -> Step
 
 // One instruction.
 fn step_at(
+    lengths: &[u8; 256],
     code: &[u8],
     members: &[u8],
     count: usize,
@@ -422,6 +424,7 @@ fn step_at(
     stack: &mut [u64],
     height: usize,
 ) -> Step
+    requires { ⌜ FixedLengths (now lengths) ⌝ }
     requires { ⌜ Indexed (now members) count (now table) ⌝ }
     requires { ⌜ Clean (now stack) height ⌝ }
     requires { ⌜ pc < fault ⌝ }
@@ -433,7 +436,7 @@ fn step_at(
         return Step::Stops;
     }
     let effect = effect_at(code, members, count, table, pc);
-    let size = bytecode::fixed_length(code[pc]) as usize;
+    let size = bytecode::fixed_by(lengths, code[pc]) as usize;
     match apply(stack, height, pc, effect) {
         Height::Refused => Step::Stops,
         Height::Over => Step::Lacks,
@@ -458,11 +461,22 @@ fn walk_block(
         (blockWalk (now (code .entry)) (now (members .entry)) count leader fault (length (now (stack .entry)))) ⌝ }
 {
     clear(stack);
+    let lengths = bytecode::fixed_lengths();
     let mut pc = leader;
     let mut height: usize = 0;
     let mut completed: usize = 0;
     while pc < fault {
-        match step_at(code, members, count, table, pc, fault, stack, height) {
+        match step_at(
+            &lengths,
+            code,
+            members,
+            count,
+            table,
+            pc,
+            fault,
+            stack,
+            height,
+        ) {
             Step::Stops => {
                 clear(&mut stack[..height]);
                 return Walk::Failed { count: completed };

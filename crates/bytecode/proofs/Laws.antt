@@ -7,11 +7,12 @@ use mathlib.Core.Bool.{Bool, true, false}
 use mathlib.Core.List.{List}
 use lib.Dec.{eqb, leb}
 use lib.ListN.{length}
-use borrow.Author.Tests.{leb-true}
+use borrow.Author.Tests.{leb-true, ne-eqb}
 use Rattle.basics.specs.Bytes.{byteAt}
 use Rattle.basics.specs.Choice.{pick}
-use Rattle.jvms.specs.Format.{Format, fixed, tableswitch, lookupswitch, wide, reserved, formatOf}
+use Rattle.jvms.specs.Format.{Format, fixed, tableswitch, lookupswitch, wide, reserved, widths, formatOf}
 use Rattle.bytecode.specs.Length.{tableBytes, lookupBytes, wideBytes, bytesBy, bytesOf, within, lengthOf, numbered}
+use Rattle.bytecode.specs.Length.{fixedBy, fixedLength, FixedLengths, lengthBy}
 use Rattle.bytecode.specs.Rule.{LengthRule}
 use Rattle.bytecode.specs.declared.Measure.{Measure}
 use Rattle.bytecode.specs.declared.Measure.the-variants.{Length, NoLength}
@@ -48,6 +49,23 @@ one-at-least reserved code pc = omega arith
 pub bytes-positive : (code : List ℕ) (pc : ℕ) → 1 ≤ bytesOf code pc
 unfolding bytesOf
 bytes-positive code pc = one-at-least (formatOf (byteAt code pc)) code pc
+
+-- the length by the table of all fixed lengths is document 01's
+pub by-fixed-lengths :
+    (lengths code : List ℕ) (pc : ℕ) → FixedLengths lengths → byteAt code pc < 256 → lengthBy lengths code pc ≡ lengthOf code pc
+unfolding lengthBy lengthOf bytesOf fixedLength
+by-fixed-lengths lengths code pc table below =
+    rw (table (byteAt code pc) below) (by-format (formatOf (byteAt code pc)))
+  where
+    by-format :
+        (f : Format) →
+        pick (eqb (fixedBy f) 0) (within code pc (bytesBy f code pc)) (within code pc (fixedBy f))
+        ≡ within code pc (bytesBy f code pc)
+    by-format (fixed os) = rw (ne-eqb (1 + widths os) 0 (omega arith))
+    by-format tableswitch = refl
+    by-format lookupswitch = refl
+    by-format wide = refl
+    by-format reserved = refl
 
 -- a way to measure that is document 01's where it gives a length is a length rule
 pub rule-of :

@@ -1,18 +1,18 @@
 -- What the code's own proofs need of the length rule: the opcodes that a format fixes, and the answers at the code's end.
 -- Assumes nothing.
-use Prim.Native.Nat.{ℕ, _+_, _≤_, _<_}
+use Prim.Native.Nat.{ℕ, zero, suc, _+_, _≤_, _<_}
 use native.Mathlib.Omega.{arith}
-use mathlib.Core.Path.{_≡_, refl}
+use mathlib.Core.Path.{_≡_, refl, _∙_}
 use mathlib.Core.Bool.{Bool, true}
 use mathlib.Core.List.{List}
 use lib.Dec.{T, eqb, eqb→eq}
 use lib.ListN.{length}
-use borrow.Author.Tests.{le-leb, lt-leb}
+use borrow.Author.Tests.{le-leb, lt-leb, eq-eqb, ne-eqb}
 use Rattle.basics.specs.Bytes.{byteAt}
 use Rattle.basics.proofs.Bytes.{byte-past}
 use Rattle.basics.proofs.Every.{every-at}
 use Rattle.jvms.specs.Format.{Format, fixed, tableswitch, lookupswitch, wide, reserved, formatOf}
-use Rattle.bytecode.specs.Length.{bytesBy, fixedBy, fixedLength, bytesOf, within, lengthOf}
+use Rattle.bytecode.specs.Length.{bytesBy, fixedBy, fixedLength, bytesOf, within, lengthOf, lengthBy}
 use Rattle.bytecode.specs.declared.Measure.the-variants.{Length, NoLength}
 
 -- an opcode whose format leaves its length open is one of three
@@ -57,3 +57,26 @@ passes code pc n past = simp (lt-leb _ _ past)
 pub none-past : (code : List ℕ) (pc : ℕ) → length code ≤ pc → NoLength ≡ lengthOf code pc
 unfolding lengthOf bytesOf formatOf
 none-past code pc past = rw (byte-past code pc past) (passes code pc 1 (omega arith))
+
+-- ---- by a table whose entry for the opcode is n
+
+module _ (lengths code : List ℕ) (pc n : ℕ) (is : n ≡ byteAt lengths (byteAt code pc)) where
+  pub entry-open : n ≡ 0 → lengthOf code pc ≡ lengthBy lengths code pc
+  unfolding lengthBy
+  entry-open none = rw (← is, eq-eqb n 0 none)
+
+  pub entry-fits : (n ≡ 0 → ⊥) → pc + n ≤ length code → Length n ≡ lengthBy lengths code pc
+  unfolding lengthBy
+  entry-fits some inside = rw (← is, ne-eqb n 0 some) (fits code pc n inside)
+
+  pub entry-passes : (n ≡ 0 → ⊥) → length code < pc + n → NoLength ≡ lengthBy lengths code pc
+  unfolding lengthBy
+  entry-passes some past = rw (← is, ne-eqb n 0 some) (passes code pc n past)
+
+-- past the end there is no instruction, by any table
+pub none-past-by : (lengths code : List ℕ) (pc : ℕ) → length code ≤ pc → NoLength ≡ lengthBy lengths code pc
+none-past-by lengths code pc past = by-entry (byteAt lengths (byteAt code pc)) refl
+  where
+    by-entry : (n : ℕ) → n ≡ byteAt lengths (byteAt code pc) → NoLength ≡ lengthBy lengths code pc
+    by-entry zero is = none-past code pc past ∙ entry-open lengths code pc zero is refl
+    by-entry (suc n) is = entry-passes lengths code pc (suc n) is (λ z. omega arith) (omega arith)

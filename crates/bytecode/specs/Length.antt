@@ -1,7 +1,8 @@
 -- The length of the instruction at an index of a code (document 01, "Measuring an instruction").
 -- "These are whole numbers that never wrap."
 -- Assumes nothing.
-use Prim.Native.Nat.{ℕ, _+_, _-_, _*_, _/_, _^_}
+use Prim.Native.Nat.{ℕ, _+_, _-_, _*_, _/_, _^_, _<_}
+use mathlib.Core.Path.{_≡_}
 use mathlib.Core.List.{List, [], _∷_}
 use lib.Dec.{eqb, leb}
 use lib.ListN.{length}
@@ -63,6 +64,10 @@ fixedBy reserved = 1
 unfoldable pub fixedLength : ℕ → ℕ
 fixedLength op = fixedBy (formatOf op)
 
+-- a table that holds the fixed length of each opcode
+abbrev pub FixedLengths : List ℕ → Type 0
+FixedLengths lengths = (op : ℕ) → op < 256 → byteAt lengths op ≡ fixedLength op
+
 -- "An instruction that would pass the end has no length."
 unfoldable pub within : List ℕ → ℕ → ℕ → Measure
 within code pc n = pick (leb (pc + n) (length code)) (Length n) NoLength
@@ -70,6 +75,12 @@ within code pc n = pick (leb (pc + n) (length code)) (Length n) NoLength
 -- document 01's length of the instruction at pc
 unfoldable pub lengthOf : List ℕ → ℕ → Measure
 lengthOf code pc = within code pc (bytesOf code pc)
+
+-- the length by a table: what its entry for the opcode fixes, document 01's where the entry is 0
+unfoldable pub lengthBy : List ℕ → List ℕ → ℕ → Measure
+lengthBy lengths code pc =
+    let n = byteAt lengths (byteAt code pc) in
+    pick (eqb n 0) (lengthOf code pc) (within code pc n)
 
 -- an answer as numbers: 0 and the length, or 1
 unfoldable pub numbered : Measure → List ℕ

@@ -6,7 +6,8 @@ ghost use Prim.Native.Nat.{_+_, _-_, _*_, _^_, _≤_, _<_};
 ghost use lib.ListN.{length};
 ghost use Rattle.basics.specs.Bytes.{byteAt, u16At, u32At};
 ghost use Rattle.bytecode.specs.Signed.{lifted, i16At, i32At};
-ghost use Rattle.bytecode.specs.Length.{aligned, operandsAt, fixedLength, tableBytes, lookupBytes, wideBytes, bytesOf, lengthOf};
+ghost use Rattle.bytecode.specs.Length.{aligned, operandsAt, fixedLength, FixedLengths, tableBytes, lookupBytes, wideBytes};
+ghost use Rattle.bytecode.specs.Length.{bytesOf, lengthOf, lengthBy};
 
 // What measuring an instruction answers.
 pub enum Measure {
@@ -72,11 +73,26 @@ pub fn pad(after: usize) -> usize
     (4 - after % 4) % 4
 }
 
+// The table of fixed lengths, to be made once and lent.
+pub fn fixed_lengths() -> [u8; 256]
+    ensures { λ r. ⌜ FixedLengths r ⌝ }
+{
+    FIXED_LENGTHS
+}
+
+// A lent table's entry for an opcode.
+pub fn fixed_by(lengths: &[u8; 256], op: u8) -> u8
+    ensures { λ r. ⌜ r ≡ byteAt (now (lengths .entry)) op ⌝ }
+{
+    lengths[op as usize]
+}
+
 // The length that the opcode alone fixes, 0 where it does not.
 pub fn fixed_length(op: u8) -> u8
     ensures { λ r. ⌜ r ≡ fixedLength op ⌝ }
 {
-    FIXED_LENGTHS[op as usize]
+    let lengths = fixed_lengths();
+    fixed_by(&lengths, op)
 }
 
 // Where the operands of a switch start.
@@ -147,6 +163,24 @@ pub fn instruction_length(code: &[u8], pc: usize) -> Measure
     let bytes = bytes_of(code, pc);
     if bytes <= code.len() - pc {
         Measure::Length(bytes)
+    } else {
+        Measure::NoLength
+    }
+}
+
+// The same by a lent table, where it fixes the length.
+pub fn length_by(lengths: &[u8; 256], code: &[u8], pc: usize) -> Measure
+    ensures { λ r. ⌜ r ≡ lengthBy (now (lengths .entry)) (now (code .entry)) pc ⌝ }
+{
+    if code.len() <= pc {
+        return Measure::NoLength;
+    }
+    let fixed = fixed_by(lengths, code[pc]) as usize;
+    if fixed == 0 {
+        return instruction_length(code, pc);
+    }
+    if fixed <= code.len() - pc {
+        Measure::Length(fixed)
     } else {
         Measure::NoLength
     }

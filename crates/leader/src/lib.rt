@@ -145,11 +145,12 @@ fn leaders_at(code: &[u8], pc: usize, next: usize, fault: usize, best: usize) ->
 pub fn block_leader(code: &[u8], fault: usize) -> Scan
     ensures { λ r. ⌜ r ≡ blockLeader lengthOf [] (now (code .entry)) fault ⌝ }
 {
+    let lengths = bytecode::fixed_lengths();
     let mut pc: usize = 0;
     let mut best: usize = 0;
     let mut count: usize = 0;
     while pc < code.len() {
-        let Measure::Length(bytes) = bytecode::instruction_length(code, pc) else {
+        let Measure::Length(bytes) = bytecode::length_by(&lengths, code, pc) else {
             return Scan::Unmeasured { at: pc, count };
         };
         best = leaders_at(code, pc, pc + bytes, fault, best);

@@ -1,6 +1,7 @@
 -- `block::step_at` meets its contract. A case on how the effect was laid into the cells.
 -- Assumes nothing.
 use native.Mathlib.Omega.{arith}
+use mathlib.Core.Path.{_∙_}
 use lib.ListN.{take}
 use borrow.Author.Needs.{needs}
 use Rattle.effects.specs.Lookup.{lookupIn}
@@ -17,11 +18,11 @@ returns c =
 effect-at-requires : tie.Need-effect-at-requires
 effect-at-requires c κs = search needs
 
-shared-slice-read-fixed-length : tie.Need-shared-slice-read-fixed-length
-shared-slice-read-fixed-length c = search needs
+shared-slice-read-fixed-by : tie.Need-shared-slice-read-fixed-by
+shared-slice-read-fixed-by c = search needs
 
-fixed-length-requires : tie.Need-fixed-length-requires
-fixed-length-requires c κs = search needs
+fixed-by-requires : tie.Need-fixed-by-requires
+fixed-by-requires c κs = search needs
 
 cast-size : tie.Need-cast-size
 cast-size c = search needs
@@ -72,10 +73,14 @@ returns-4 : tie.Need-returns-4
 returns-4 c =
     let laid = c .before .before .before .before .before .before in
     let read = laid .before .before .before .before in
-    let a = read .before .before .before .before .before .before .args in
+    let start = read .before .before .before .before .before .before in
+    let a = start .args in
+    let size =
+    laid .before .before .fixed-by .ensures
+    ∙ start .pre .0 _ (read .before .before .before .before .before .shared-slice-known .given (a .pc) .fits) in
     stepping.lands-at (lookupIn (a .members .now) (a .count)) (a .code .now) (a .fault) (a .pc) (a .stack .now)
-    (take (a .height) (a .stack .now)) (omega arith) _ (read .effect-at .ensures) _ _ _ _
-    (laid .before .before .fixed-length .ensures) (rw (c .before .before .next .given .1) at (laid .apply .ensures))
+    (take (a .height) (a .stack .now)) (omega arith) _ (read .effect-at .ensures) _ _ _ _ size
+    (rw (c .before .before .next .given .1) at (laid .apply .ensures))
     (c .land .ensures)
 
 pub step-at-spec : {M : Type 1} → statement M
@@ -84,8 +89,8 @@ step-at-spec =
     (tie.spec
     returns
     effect-at-requires
-    shared-slice-read-fixed-length
-    fixed-length-requires
+    shared-slice-read-fixed-by
+    fixed-by-requires
     cast-size
     apply-requires
     enum-told

@@ -12,37 +12,43 @@ use Rattle.block.proofs.walk_block.Statement.{statement}
 use Rattle.block.proofs.walk_block.Tie as tie
 
 abbrev Inv-loop : tie.InvT-loop
-Inv-loop code members count table leader fault stack₀ pc₀ height₀ completed₀ stack pc height completed =
+Inv-loop code members count table leader fault stack₀ lengths pc₀ height₀ completed₀ stack pc height completed =
     looping.Inv code members count leader fault (length stack₀) stack pc height completed
 
 abbrev μ-loop : tie.MeasureT-loop
-μ-loop code members count table leader fault stack₀ pc₀ height₀ completed₀ stack pc height completed = fault - pc
+μ-loop code members count table leader fault stack₀ lengths pc₀ height₀ completed₀ stack pc height completed = fault - pc
 
 clear-requires : tie.Need-clear-requires Inv-loop μ-loop
 clear-requires c κs = search needs
 
+fixed-lengths-requires : tie.Need-fixed-lengths-requires Inv-loop μ-loop
+fixed-lengths-requires c κs = search needs
+
 loop-holds : tie.Need-loop-holds Inv-loop μ-loop
 loop-holds c =
-    let first = c .before .before in
+    let first = c .before .before .before in
     let a = first .before .before .before .before .before .before .args in
     looping.starts (a .code .now) (a .members .now) (a .count) (a .leader) (a .fault) (length (a .stack .now)) _
     (first .clear .ensures)
 
 step-at-requires : tie.Need-step-at-requires Inv-loop μ-loop
-step-at-requires c κs = search needs
+step-at-requires c κs =
+    let at = c .before .before .before in
+    let start = at .before .before .before .before .before .before .before .before .before .before in
+    (at .before .fixed-lengths .ensures, (start .pre, (at .loop .inv .1, c .before .before .loop-test .taken)))
 
 -- each instruction has a byte before the fault, so the count is small
-counted : (c : tie.After-step-at Inv-loop μ-loop) → c .before .before .before .loop .completed + 1 < 2 ^ 64
+counted : (c : tie.After-step-at Inv-loop μ-loop) → c .before .before .before .before .loop .completed + 1 < 2 ^ 64
 counted c =
-    let at = c .before .before .before .loop in
-    let start = c .before .before .before .before .before .before .before .before .before .before .before .before in
-    omega (arith, at .inv .2 .1, at .inv .2 .2, c .before .before .loop-test .taken, start .fits .fault)
+    let at = c .before .before .before .before .loop in
+    let start = c .before .before .before .before .before .before .before .before .before .before .before .before .before .before in
+    omega (arith, at .inv .2 .1, at .inv .2 .2, c .before .before .before .loop-test .taken, start .fits .fault)
 
 enum-told : tie.Need-enum-told Inv-loop μ-loop
 enum-told c = search needs
 
 slice-relend-prefix-clear : tie.Need-slice-relend-prefix-clear Inv-loop μ-loop
-slice-relend-prefix-clear c = omega (arith, c .before .before .before .before .before .before .before .loop .inv .1 .high)
+slice-relend-prefix-clear c = omega (arith, c .before .before .before .before .before .before .before .before .loop .inv .1 .high)
 
 slice-aggregate-clear : tie.Need-slice-aggregate-clear Inv-loop μ-loop
 slice-aggregate-clear c = sym (length-take-le _ _ (slice-relend-prefix-clear (c .before)))
@@ -56,19 +62,19 @@ same-length c = search needs
 returns : tie.Need-returns Inv-loop μ-loop
 returns c =
     let turn = c .before .before .before .before .before .before .before .before in
-    let at = turn .before .before .before .loop in
-    let first = turn .before .before .before .before .before .before in
+    let at = turn .before .before .before .before .loop in
+    let first = turn .before .before .before .before .before .before .before .before in
     let a = first .before .before .before .before .before .before .args in
     looping.ends-stopped (a .code .now) (a .members .now) (a .count) (a .leader) (a .fault) (a .stack .now) _
     (first .clear .ensures) (at .stack) (at .pc) (at .height) (at .completed) (at .inv)
-    _ _ (c .before .before .clear2 .ensures) (turn .before .before .loop-test .taken)
+    _ _ (c .before .before .clear2 .ensures) (turn .before .before .before .loop-test .taken)
     (rw (c .before .before .before .before .enum-told .given .1) at (turn .step-at .ensures))
 
 enum-told-2 : tie.Need-enum-told-2 Inv-loop μ-loop
 enum-told-2 c = search needs
 
 slice-relend-prefix-clear-2 : tie.Need-slice-relend-prefix-clear-2 Inv-loop μ-loop
-slice-relend-prefix-clear-2 c = omega (arith, c .before .before .before .before .before .before .before .loop .inv .1 .high)
+slice-relend-prefix-clear-2 c = omega (arith, c .before .before .before .before .before .before .before .before .loop .inv .1 .high)
 
 slice-aggregate-clear-2 : tie.Need-slice-aggregate-clear-2 Inv-loop μ-loop
 slice-aggregate-clear-2 c = sym (length-take-le _ _ (slice-relend-prefix-clear-2 (c .before)))
@@ -82,12 +88,12 @@ same-length-2 c = search needs
 returns-2 : tie.Need-returns-2 Inv-loop μ-loop
 returns-2 c =
     let turn = c .before .before .before .before .before .before .before .before in
-    let at = turn .before .before .before .loop in
-    let first = turn .before .before .before .before .before .before in
+    let at = turn .before .before .before .before .loop in
+    let first = turn .before .before .before .before .before .before .before .before in
     let a = first .before .before .before .before .before .before .args in
     looping.ends-lacked (a .code .now) (a .members .now) (a .count) (a .leader) (a .fault) (a .stack .now) _
     (first .clear .ensures) (at .stack) (at .pc) (at .height) (at .completed) (at .inv)
-    _ _ (c .before .before .clear3 .ensures) (turn .before .before .loop-test .taken)
+    _ _ (c .before .before .clear3 .ensures) (turn .before .before .before .loop-test .taken)
     (rw (c .before .before .before .before .enum-told2 .given .1) at (turn .step-at .ensures))
 
 enum-told-3 : tie.Need-enum-told-3 Inv-loop μ-loop
@@ -96,8 +102,8 @@ enum-told-3 c = search needs
 clear-requires-4 : tie.Need-clear-requires-4 Inv-loop μ-loop
 clear-requires-4 c κs = search needs
 
-add-t29 : tie.Need-add-t29 Inv-loop μ-loop
-add-t29 c = omega (arith, counted (c .before .before .before .before .before .before .before .before))
+add-t32 : tie.Need-add-t32 Inv-loop μ-loop
+add-t32 c = omega (arith, counted (c .before .before .before .before .before .before .before .before))
 
 same-length-3 : tie.Need-same-length-3 Inv-loop μ-loop
 same-length-3 c = search needs
@@ -105,12 +111,12 @@ same-length-3 c = search needs
 returns-3 : tie.Need-returns-3 Inv-loop μ-loop
 returns-3 c =
     let turn = c .before .before .before .before .before .before .before .before in
-    let at = turn .before .before .before .loop in
-    let first = turn .before .before .before .before .before .before in
+    let at = turn .before .before .before .before .loop in
+    let first = turn .before .before .before .before .before .before .before .before in
     let a = first .before .before .before .before .before .before .args in
     looping.ends-passed (a .code .now) (a .members .now) (a .count) (a .leader) (a .fault) (a .stack .now) _
     (first .clear .ensures) (at .stack) (at .pc) (at .height) (at .completed) (at .inv)
-    (turn .before .before .loop-test .taken) _ _ (omega arith) (c .before .before .clear4 .ensures)
+    (turn .before .before .before .loop-test .taken) _ _ (omega arith) (c .before .before .clear4 .ensures)
     (rw (c .before .before .before .before .enum-told3 .given .1) at (turn .step-at .ensures))
 
 enum-known-next : tie.Need-enum-known-next Inv-loop μ-loop
@@ -122,26 +128,26 @@ add-completed c = omega (arith, counted (c .before .before .before .before .befo
 loop-less : tie.Need-loop-less Inv-loop μ-loop
 loop-less c =
     let turn = c .before .before .before .before .before in
-    let at = turn .before .before .before .loop in
-    let first = turn .before .before .before .before .before .before in
+    let at = turn .before .before .before .before .loop in
+    let first = turn .before .before .before .before .before .before .before .before in
     let start = first .before .before .before .before .before .before in
     let a = start .args in
     let bytes : AreBytes (a .code .now) = λ i. first .before .before .before .before .before .shared-slice-known .given i .fits in
     let on = looping.up (a .code .now) (a .members .now) (a .count) (a .leader) (a .fault) (length (first .clear .last .0))
-    (at .stack) (at .pc) (at .height) (at .completed) (at .inv) bytes (turn .before .before .loop-test .taken) _ _ _
+    (at .stack) (at .pc) (at .height) (at .completed) (at .inv) bytes (turn .before .before .before .loop-test .taken) _ _ _
     (rw (c .before .next .given .1) at (turn .step-at .ensures)) in
-    omega (arith, on, turn .before .before .loop-test .taken)
+    omega (arith, on, turn .before .before .before .loop-test .taken)
 
 loop-again : tie.Need-loop-again Inv-loop μ-loop
 loop-again c =
     let turn = c .before .before .before .before .before in
-    let at = turn .before .before .before .loop in
-    let first = turn .before .before .before .before .before .before in
+    let at = turn .before .before .before .before .loop in
+    let first = turn .before .before .before .before .before .before .before .before in
     let start = first .before .before .before .before .before .before in
     let a = start .args in
     let bytes : AreBytes (a .code .now) = λ i. first .before .before .before .before .before .shared-slice-known .given i .fits in
     looping.again (a .code .now) (a .members .now) (a .count) (a .leader) (a .fault) (length (first .clear .last .0))
-    (at .stack) (at .pc) (at .height) (at .completed) (at .inv) bytes (turn .before .before .loop-test .taken) _ _ _
+    (at .stack) (at .pc) (at .height) (at .completed) (at .inv) bytes (turn .before .before .before .loop-test .taken) _ _ _
     (rw (c .before .next .given .1) at (turn .step-at .ensures))
 
 same-length-4 : tie.Need-same-length-4 Inv-loop μ-loop
@@ -150,7 +156,7 @@ same-length-4 c = search needs
 returns-4 : tie.Need-returns-4 Inv-loop μ-loop
 returns-4 c =
     let at = c .before .before .loop in
-    let first = c .before .before .before .before .before in
+    let first = c .before .before .before .before .before .before in
     let a = first .before .before .before .before .before .before .args in
     looping.ends-done (a .code .now) (a .members .now) (a .count) (a .leader) (a .fault) (a .stack .now) _
     (first .clear .ensures) (at .stack) (at .pc) (at .height) (at .completed) (at .inv) (c .if1 .taken)
@@ -171,7 +177,7 @@ returns-5 : tie.Need-returns-5 Inv-loop μ-loop
 returns-5 c =
     let after = c .before .before .before .before in
     let at = after .before .before .loop in
-    let first = after .before .before .before .before .before in
+    let first = after .before .before .before .before .before .before in
     let a = first .before .before .before .before .before .before .args in
     looping.ends-past (a .code .now) (a .members .now) (a .count) (a .leader) (a .fault) (a .stack .now) _
     (first .clear .ensures) (at .stack) (at .pc) (at .height) (at .completed) (at .inv)
@@ -184,6 +190,7 @@ walk-block-spec =
     Inv-loop
     μ-loop
     clear-requires
+    fixed-lengths-requires
     loop-holds
     step-at-requires
     enum-told
@@ -200,7 +207,7 @@ walk-block-spec =
     returns-2
     enum-told-3
     clear-requires-4
-    add-t29
+    add-t32
     same-length-3
     returns-3
     enum-known-next

@@ -1,18 +1,20 @@
--- `bytecode::fixed_length` meets its contract. The table that the rule computes is the constant: one test over all 256 entries.
+-- `bytecode::fixed_length` meets its contract. It is the table's entry.
 -- Assumes nothing.
+use mathlib.Core.Path.{_∙_}
 use borrow.Author.Needs.{needs}
-use Rattle.bytecode.specs.Length.{fixedLength}
-use Rattle.jvms.specs.Format.{formatOf}
-use Rattle.basics.proofs.Table.{tabled-at}
 use Rattle.bytecode.proofs.fixed_length.Statement.{statement}
 use Rattle.bytecode.proofs.fixed_length.Tie as tie
 
-array-read-result : tie.Need-array-read-result
-array-read-result c = search needs
+fixed-lengths-requires : tie.Need-fixed-lengths-requires
+fixed-lengths-requires c κs = search needs
+
+fixed-by-requires : tie.Need-fixed-by-requires
+fixed-by-requires c κs = search needs
 
 returns : tie.Need-returns
-unfolding fixedLength formatOf
-returns c = tabled-at fixedLength 256 (c .args .op) (search needs)
+returns c =
+    let made = c .before .before in
+    c .fixed-by .ensures ∙ made .fixed-lengths .ensures (made .before .args .op) (made .before .fits .op .fits)
 
 pub fixed-length-spec : {M : Type 1} → statement M
-fixed-length-spec = tie.close (tie.spec array-read-result returns)
+fixed-length-spec = tie.close (tie.spec fixed-lengths-requires fixed-by-requires returns)
