@@ -1,0 +1,204 @@
+//! The tally of a run: how much was compared, which listed differences were met, and what disagreed.
+use crate::differences::{Listed, LISTED};
+use std::collections::BTreeMap;
+use std::io::Write;
+use std::time::Instant;
+
+/// How many disagreements are printed.
+const SHOWN: usize = 5;
+
+/// Columns of the table of cases.
+pub const COLUMNS: [&str; 10] =
+    ["inputs", "cause", "action", "none", "broken", "too long", "reports", "walks", "names", "lengths"];
+
+/// What a column counts.
+#[derive(Clone, Copy)]
+pub enum Column {
+    Inputs,
+    Cause,
+    Action,
+    NoMessage,
+    Broken,
+    TooLong,
+    Reports,
+    Walks,
+    Names,
+    Lengths,
+}
+
+/// An input on which the two sides differ.
+struct Disagreement {
+    input: Vec<u8>,
+    what: String,
+    ours: String,
+    theirs: String,
+}
+
+pub struct Book {
+    /// The kind of the input at hand.
+    kind: &'static str,
+    counts: BTreeMap<&'static str, [u64; COLUMNS.len()]>,
+    order: Vec<&'static str>,
+    listed: [u64; LISTED.len()],
+    disagreements: u64,
+    smallest: Vec<Disagreement>,
+    /// The inputs seen when the first disagreement came.
+    first_after: Option<u64>,
+    inputs: u64,
+    answers: BTreeMap<&'static str, u64>,
+    begun: Instant,
+}
+
+impl Book {
+    pub fn new() -> Self {
+        Book {
+            kind: "",
+            counts: BTreeMap::new(),
+            order: Vec::new(),
+            listed: [0; LISTED.len()],
+            disagreements: 0,
+            smallest: Vec::new(),
+            first_after: None,
+            inputs: 0,
+            answers: BTreeMap::new(),
+            begun: Instant::now(),
+        }
+    }
+
+    /// A new input of a kind.
+    pub fn input(&mut self, kind: &'static str) {
+        self.kind = kind;
+        self.inputs += 1;
+        if !self.counts.contains_key(kind) {
+            self.order.push(kind);
+        }
+        self.count(Column::Inputs);
+    }
+
+    pub fn count(&mut self, column: Column) {
+        self.add(column, 1);
+    }
+
+    pub fn add(&mut self, column: Column, number: u64) {
+        self.counts.entry(self.kind).or_default()[column as usize] += number;
+    }
+
+    /// Counts an answer of the library by its name.
+    pub fn answer(&mut self, name: &'static str) {
+        *self.answers.entry(name).or_default() += 1;
+    }
+
+    pub fn listed(&mut self, difference: Listed) {
+        self.listed[difference as usize] += 1;
+    }
+
+    pub fn disagree(&mut self, input: &[u8], what: String, ours: String, theirs: String) {
+        self.disagreements += 1;
+        self.first_after.get_or_insert(self.inputs);
+        let place = self.smallest.partition_point(|kept| kept.input.len() <= input.len());
+        if place < SHOWN {
+            let what = format!("{} ({})", what, self.kind);
+            self.smallest.insert(place, Disagreement { input: input.to_vec(), what, ours, theirs });
+            self.smallest.truncate(SHOWN);
+        }
+    }
+
+    /// Two answers that must be equal.
+    pub fn expect<T: PartialEq + std::fmt::Debug>(&mut self, input: &[u8], what: &str, ours: T, theirs: T) {
+        if ours != theirs {
+            self.disagree(input, what.to_string(), format!("{ours:?}"), format!("{theirs:?}"));
+        }
+    }
+
+    /// An answer of the checked build, `None` where it panicked: a panic must be listed, an answer must be the expected one.
+    pub fn expect_checked<T: PartialEq + std::fmt::Debug>(
+        &mut self,
+        input: &[u8],
+        what: &str,
+        checked: Option<T>,
+        expected: T,
+        panic_is_listed: bool,
+    ) {
+        match checked {
+            Some(answer) => self.expect(input, what, expected, answer),
+            None if panic_is_listed => {}
+            None => self.disagree(input, what.to_string(), format!("{expected:?}"), "the checked build panics".to_string()),
+        }
+    }
+
+    /// The progress line, in place.
+    pub fn progress(&self, done: u64, of: u64) {
+        let seconds = self.begun.elapsed().as_secs_f64();
+        eprint!("\r{:<24} {done} of {of}, {} disagreements, {seconds:.0} s ", self.kind, self.disagreements);
+        let _ = std::io::stderr().flush();
+    }
+
+    /// Whether everything agreed.
+    pub fn agreed(&self) -> bool {
+        self.disagreements == 0
+    }
+
+    /// Prints the tables and the smallest disagreements.
+    pub fn print(&self) {
+        eprintln!();
+        self.print_counts();
+        println!();
+        for (name, count) in &self.answers {
+            println!("{name:<36} {count:>12}");
+        }
+        println!();
+        println!("{:<66} {:>9}", "listed difference", "inputs");
+        for ((number, text), count) in LISTED.iter().zip(self.listed) {
+            println!("{number} {text:<63} {count:>9}");
+        }
+        println!();
+        let seconds = self.begun.elapsed().as_secs_f64();
+        println!("{} inputs in {seconds:.1} s, {:.0} a second", self.inputs, self.inputs as f64 / seconds);
+        println!("disagreements {}", self.disagreements);
+        self.print_disagreements();
+    }
+
+    fn print_counts(&self) {
+        print!("{:<22}", "kind of input");
+        for name in COLUMNS {
+            print!(" {name:>10}");
+        }
+        println!();
+        let mut sums = [0; COLUMNS.len()];
+        for kind in &self.order {
+            let row = &self.counts[kind];
+            print_row(kind, row);
+            sums.iter_mut().zip(row).for_each(|(sum, count)| *sum += count);
+        }
+        print_row("all", &sums);
+    }
+
+    fn print_disagreements(&self) {
+        if let Some(inputs) = self.first_after {
+            println!("the first came at input {inputs}; the smallest:");
+        }
+        for one in &self.smallest {
+            println!("- {}", one.what);
+            println!("  input    {}", hex(&one.input));
+            println!("  library  {}", one.ours);
+            println!("  the Rust {}", one.theirs);
+        }
+    }
+}
+
+fn print_row(name: &str, counts: &[u64]) {
+    print!("{name:<22}");
+    for count in counts {
+        print!(" {count:>10}");
+    }
+    println!();
+}
+
+/// Bytes in hexadecimal; of many, the first 2,000.
+fn hex(bytes: &[u8]) -> String {
+    let mut text: String = bytes.iter().take(2_000).map(|byte| format!("{byte:02x}")).collect();
+    if bytes.len() > 2_000 {
+        text += &format!(".. ({} bytes)", bytes.len());
+    }
+    text
+}

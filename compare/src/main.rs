@@ -1,0 +1,93 @@
+//! Compares the library with the Rust that it ports: the same inputs to both, every answer.
+mod book;
+mod cases;
+mod descriptors;
+mod differences;
+mod layout;
+mod make;
+mod random;
+mod room;
+mod rule;
+mod sides;
+
+use cases::Run;
+use random::Random;
+
+/// How many inputs go by between two progress lines.
+const STEP: u64 = 2_000;
+
+/// The whole comparison: so many cases, so many made descriptors, and every short descriptor as the count allows.
+fn compare(seed: u64, count: u64) -> Run {
+    let mut run = Run::new(seed);
+    cases(&mut run, seed, count);
+    made_descriptors(&mut run, seed, count);
+    short_descriptors(&mut run, count);
+    run
+}
+
+/// Cases of every kind, mixed, so that each is met early.
+fn cases(run: &mut Run, seed: u64, count: u64) {
+    let mut random = Random::new(seed ^ 0x6361_7365);
+    let mix: Vec<usize> = (0..make::KINDS.len()).flat_map(|kind| vec![kind; make::KINDS[kind].1]).collect();
+    for done in 0..count {
+        let (name, _, make) = make::KINDS[mix[random.below(mix.len())]];
+        run.book.input(name);
+        run.case(&make(&mut random));
+        if done % STEP == 0 {
+            run.book.progress(done, count);
+        }
+    }
+}
+
+fn made_descriptors(run: &mut Run, seed: u64, count: u64) {
+    let mut random = Random::new(seed ^ 0x6465_7363);
+    for done in 0..count {
+        let (name, text) = descriptors::made(&mut random);
+        run.book.input(name);
+        run.descriptor(&text);
+        if done % STEP == 0 {
+            run.book.progress(done, count);
+        }
+    }
+}
+
+/// Every text over the alphabet whose length has no more texts than the count.
+fn short_descriptors(run: &mut Run, count: u64) {
+    let mut text = Vec::new();
+    for letters in 0..=7u32 {
+        let texts = (descriptors::ALPHABET.len() as u64).pow(letters);
+        if texts > count {
+            break;
+        }
+        for number in 0..texts {
+            descriptors::short(number as usize, letters as usize, &mut text);
+            run.book.input("every short descriptor");
+            run.descriptor(&text);
+            if number % (10 * STEP) == 0 {
+                run.book.progress(number, texts);
+            }
+        }
+    }
+}
+
+fn main() {
+    sides::silence_expected_panics();
+    let arguments: Vec<String> = std::env::args().skip(1).collect();
+    let number = |place: usize, usual: u64| match arguments.get(place) {
+        None => usual,
+        Some(text) => text.parse().unwrap_or_else(|_| usage()),
+    };
+    let run = match arguments.first().map(String::as_str) {
+        Some("run") => compare(number(1, 1), number(2, 100_000)),
+        _ => usage(),
+    };
+    run.book.print();
+    if !run.book.agreed() {
+        std::process::exit(1);
+    }
+}
+
+fn usage() -> ! {
+    eprintln!("compare: run [SEED] [COUNT]");
+    std::process::exit(2);
+}

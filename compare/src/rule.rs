@@ -1,0 +1,164 @@
+//! What the Rust says of a case, and what follows from it by document 01: counts, answers and room.
+//!
+//! The walk from a leader lands at an index exactly when `simulate_block` reaches it. So its landings, their number and their
+//! heights are the Rust's own.
+use crate::differences::{cut_signature, scan};
+use crate::layout::Parts;
+use crate::sides::{quietly, Build, Checked, Held, Holding, Origin, Wrapped};
+use korsepal::{Answer, Walk};
+
+/// No instruction of the walk is longer.
+const LONGEST_WALKED: usize = 5;
+
+/// The list after a completed instruction.
+pub struct Landing {
+    /// The index of the instruction.
+    pub by: usize,
+    pub height: usize,
+}
+
+/// A walk of the Rust, from a leader to a fault.
+pub struct Walked {
+    /// One to a completed instruction, the one that passes the fault included.
+    pub landings: Vec<Landing>,
+    /// The cells, where the fault is reached.
+    pub cells: Option<Vec<u64>>,
+}
+
+/// A cell by document 01: 0 when opaque, else 1 + 256 * load index + local.
+fn cell(origin: Origin) -> u64 {
+    match origin {
+        None => 0,
+        Some((local, load)) => 1 + 256 * load as u64 + u64::from(local),
+    }
+}
+
+impl Walked {
+    pub fn new(side: &impl Build, code: &[u8], leader: usize, fault: usize) -> Self {
+        let mut walked = Walked { landings: Vec::new(), cells: (leader == fault).then(Vec::new) };
+        let mut at = leader;
+        while at < fault {
+            let places = (1..=LONGEST_WALKED).filter_map(|length| at.checked_add(length));
+            let next = places.into_iter().find_map(|place| Some((place, side.walk(code, leader, place)?)));
+            let Some((place, list)) = next else { break };
+            walked.landings.push(Landing { by: at, height: list.len() });
+            if place == fault {
+                walked.cells = Some(list.into_iter().map(cell).collect());
+            }
+            at = place;
+        }
+        walked
+    }
+
+    /// The greatest height.
+    pub fn highest(&self) -> usize {
+        self.landings.iter().map(|landing| landing.height).max().unwrap_or(0)
+    }
+
+    /// The index of the first instruction after which the list exceeds a room.
+    fn lacking(&self, room: usize) -> Option<u64> {
+        let landing = self.landings.iter().find(|landing| landing.height > room)?;
+        Some(landing.by as u64)
+    }
+
+    /// What the walk alone answers with a room.
+    pub fn answer(&self, room: usize) -> Walk<'_> {
+        let count = self.landings.len() as u64;
+        match (self.lacking(room), &self.cells) {
+            (Some(at), _) => Walk::NoRoom { at },
+            (None, Some(slots)) => Walk::Done { slots, count },
+            (None, None) => Walk::Failed { count },
+        }
+    }
+}
+
+/// What the Rust says of a case that keeps its layout.
+pub struct Facts {
+    pub holding: Holding,
+    pub checked: Checked,
+    pub wrapped: Wrapped,
+    /// A table of the scan has high < low, or leaves 32 bits.
+    pub falling: bool,
+    pub wide: bool,
+    /// The slots of the parameters pass 65,535.
+    pub long_signature: bool,
+    pub action: Option<Vec<u8>>,
+    pub message: Option<Vec<u8>>,
+    pub scan: usize,
+    pub leader: Option<usize>,
+    pub walked: Option<Walked>,
+}
+
+/// The message put together as `build_message` does, for a leader that stands in for its own.
+fn composed(side: &Wrapped, code: &[u8], leader: Option<usize>, fault: usize) -> Option<String> {
+    let (action, depth) = side.action(code, fault)?;
+    let slots = leader.and_then(|leader| side.walk(code, leader, fault)).unwrap_or_default();
+    let origin = slots.len().checked_sub(1 + depth).and_then(|place| slots[place]);
+    Some(match origin {
+        Some((local, load)) => format!("{action} because \"{}\" is null", side.name(local, load)),
+        None => action,
+    })
+}
+
+impl Facts {
+    pub fn of(parts: &Parts) -> Self {
+        let code = &parts.code;
+        let fault = usize::from(parts.fault);
+        let cut = cut_signature(&parts.signature, parts.flags & 8 != 0);
+        let held = Held::new(parts, cut.unwrap_or(&parts.signature));
+        let wrapped = Wrapped::over(parts, &held);
+        let whole = if cut.is_some() { Held::new(parts, &parts.signature) } else { held };
+        let checked = Checked::over(parts, &whole);
+        let scan = scan(code);
+        let leader = Wrapped::leader(&scan.code, fault);
+        let message =
+            if scan.wide { composed(&wrapped, code, leader, fault) } else { wrapped.message(fault) };
+        let holding = whole.holding;
+        Facts {
+            holding,
+            falling: scan.falling,
+            wide: scan.wide,
+            long_signature: cut.is_some(),
+            action: wrapped.action(code, fault).map(|(action, _)| holding.release(action)),
+            message: message.map(|message| holding.release(message)),
+            scan: scan.count,
+            leader,
+            walked: leader.map(|leader| Walked::new(&wrapped, code, leader, fault)),
+            checked,
+            wrapped,
+        }
+    }
+
+    /// Whether some listed difference holds of the case.
+    pub fn listed(&self) -> bool {
+        self.falling || self.wide || self.long_signature || self.holding == Holding::ByteByByte
+    }
+
+    /// The message of the checked build: `None` where it panics.
+    pub fn checked_message(&self, fault: usize) -> Option<Option<Vec<u8>>> {
+        let message = quietly(|| self.checked.message(fault))?;
+        Some(message.map(|message| self.holding.release(message)))
+    }
+
+    /// The greatest height of the walk.
+    pub fn highest(&self) -> usize {
+        self.walked.as_ref().map_or(0, Walked::highest)
+    }
+
+    /// What a report answers with room for so many slots and bytes.
+    pub fn answer(&self, room: usize, output: usize) -> Answer<'_> {
+        let Some(message) = &self.message else { return Answer::NoMessage };
+        if let Some(at) = self.walked.as_ref().and_then(|walked| walked.lacking(room)) {
+            return Answer::NoRoom { at };
+        }
+        if message.len() > output {
+            return Answer::NoOutput { needed: message.len() as u64 };
+        }
+        Answer::Message {
+            text: message,
+            kind: if self.action.as_ref() == Some(message) { 1 } else { 2 },
+            scan: self.scan as u32,
+            block: self.walked.as_ref().map_or(0, |walked| walked.landings.len() as u32),
+        }
+    }
+}
