@@ -7,24 +7,46 @@ use std::time::Instant;
 /// How many disagreements are printed.
 const SHOWN: usize = 5;
 
-/// Columns of the table of cases.
-pub const COLUMNS: [&str; 10] =
-    ["inputs", "cause", "action", "none", "broken", "too long", "reports", "walks", "names", "lengths"];
+/// The columns: those of cases, then those of descriptors.
+const COLUMNS: [&str; 13] = [
+    "inputs", "cause", "action", "none", "broken", "too long", "reports", "walks", "names", "lengths", "lists", "types", "methods",
+];
+const CASE_COLUMNS: &[Column] = &[
+    Column::Inputs,
+    Column::Cause,
+    Column::Action,
+    Column::NoMessage,
+    Column::Broken,
+    Column::TooLong,
+    Column::Reports,
+    Column::Walks,
+    Column::Names,
+    Column::Lengths,
+];
+const DESCRIPTOR_COLUMNS: &[Column] = &[Column::Inputs, Column::Lists, Column::Types, Column::Methods];
 
 /// What a column counts.
 #[derive(Clone, Copy)]
 pub enum Column {
     Inputs,
+    /// Cases by their answer where there is room enough.
     Cause,
     Action,
     NoMessage,
     Broken,
     TooLong,
+    /// Calls that were compared.
     Reports,
     Walks,
     Names,
     Lengths,
+    /// Descriptors that can be read as a parameter list, strictly as a type, strictly as a method.
+    Lists,
+    Types,
+    Methods,
 }
+
+type Counts = [u64; COLUMNS.len()];
 
 /// An input on which the two sides differ.
 struct Disagreement {
@@ -37,7 +59,7 @@ struct Disagreement {
 pub struct Book {
     /// The kind of the input at hand.
     kind: &'static str,
-    counts: BTreeMap<&'static str, [u64; COLUMNS.len()]>,
+    counts: BTreeMap<&'static str, Counts>,
     order: Vec<&'static str>,
     listed: [u64; LISTED.len()],
     disagreements: u64,
@@ -141,8 +163,8 @@ impl Book {
     /// Prints the tables and the smallest disagreements.
     pub fn print(&self) {
         eprintln!();
-        self.print_counts();
-        println!();
+        self.print_counts("kind of case", CASE_COLUMNS);
+        self.print_counts("kind of descriptor", DESCRIPTOR_COLUMNS);
         for (name, count) in &self.answers {
             println!("{name:<36} {count:>12}");
         }
@@ -158,19 +180,25 @@ impl Book {
         self.print_disagreements();
     }
 
-    fn print_counts(&self) {
-        print!("{:<22}", "kind of input");
-        for name in COLUMNS {
-            print!(" {name:>10}");
+    /// The kinds that have a count in one of the columns, and their sum.
+    fn print_counts(&self, title: &str, columns: &[Column]) {
+        let kinds: Vec<_> = self.order.iter().filter(|kind| belongs(&self.counts[*kind], columns)).collect();
+        if kinds.is_empty() {
+            return;
+        }
+        print!("{title:<22}");
+        for &column in columns {
+            print!(" {:>10}", COLUMNS[column as usize]);
         }
         println!();
         let mut sums = [0; COLUMNS.len()];
-        for kind in &self.order {
+        for kind in kinds {
             let row = &self.counts[kind];
-            print_row(kind, row);
+            print_row(kind, row, columns);
             sums.iter_mut().zip(row).for_each(|(sum, count)| *sum += count);
         }
-        print_row("all", &sums);
+        print_row("all", &sums, columns);
+        println!();
     }
 
     fn print_disagreements(&self) {
@@ -186,10 +214,15 @@ impl Book {
     }
 }
 
-fn print_row(name: &str, counts: &[u64]) {
+/// Whether some column but the inputs has a count.
+fn belongs(counts: &Counts, columns: &[Column]) -> bool {
+    columns[1..].iter().any(|&column| counts[column as usize] > 0)
+}
+
+fn print_row(name: &str, counts: &Counts, columns: &[Column]) {
     print!("{name:<22}");
-    for count in counts {
-        print!(" {count:>10}");
+    for &column in columns {
+        print!(" {:>10}", counts[column as usize]);
     }
     println!();
 }

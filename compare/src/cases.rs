@@ -31,6 +31,15 @@ impl Run {
         }
     }
 
+    /// Compares the two sides on a fault of a method that keeps the layout; the lengths once to a method.
+    pub fn fault_of_method(&mut self, bytes: &[u8], first: bool) {
+        match layout::read(bytes) {
+            Ok(parts) if first => self.whole_case(bytes, &parts),
+            Ok(parts) => self.fault(bytes, &parts),
+            Err(wrong) => self.broken_case(bytes, wrong),
+        }
+    }
+
     fn broken_case(&mut self, bytes: &[u8], wrong: Wrong) {
         let (answer, walk, name) = match wrong {
             Wrong::TooLong => (Answer::TooLong, Walk::TooLong, Name::TooLong),
@@ -49,13 +58,18 @@ impl Run {
     }
 
     fn whole_case(&mut self, bytes: &[u8], parts: &Parts) {
+        self.fault(bytes, parts);
+        self.lengths(bytes, &parts.code);
+    }
+
+    /// Everything but the lengths.
+    fn fault(&mut self, bytes: &[u8], parts: &Parts) {
         let facts = Facts::of(parts);
         self.count_facts(&facts);
         self.reports(bytes, parts, &facts);
         self.leaders(bytes, parts, &facts);
         self.walks(bytes, parts, &facts);
         self.names(bytes, parts, &facts);
-        self.lengths(bytes, &parts.code);
     }
 
     fn count_facts(&mut self, facts: &Facts) {

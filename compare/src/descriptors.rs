@@ -266,7 +266,7 @@ impl Run {
         self.book.expect(text, "field slots", korsepal::field_slots(text), Some(field));
         self.book.expect(text, "field slots by the checked build", Checked::field_slots(text) as u32, field);
         if readable {
-            self.book.count(Column::Action);
+            self.book.count(Column::Lists);
         }
     }
 
@@ -304,6 +304,9 @@ fn count_strict(book: &mut Book, as_type: bool, expected: &Result<Vec<u64>, u32>
         "strict method: refusal  8", "strict method: refusal  9", "strict method: refusal 10", "strict method: refusal 11",
         "strict method: refusal 12", "strict method: refusal 13",
     ];
+    if expected.is_ok() {
+        book.count(if as_type { Column::Types } else { Column::Methods });
+    }
     let number = expected.as_ref().err().map_or(0, |&refusal| refusal as usize);
     book.answer(if as_type { TYPE[number] } else { METHOD[number] });
 }

@@ -1,6 +1,8 @@
 //! Compares the library with the Rust that it ports: the same inputs to both, every answer.
 mod book;
 mod cases;
+mod classes;
+mod classfile;
 mod descriptors;
 mod differences;
 mod layout;
@@ -8,10 +10,12 @@ mod make;
 mod random;
 mod room;
 mod rule;
+mod sample;
 mod sides;
 
 use cases::Run;
 use random::Random;
+use std::path::Path;
 
 /// How many inputs go by between two progress lines.
 const STEP: u64 = 2_000;
@@ -70,6 +74,22 @@ fn short_descriptors(run: &mut Run, count: u64) {
     }
 }
 
+/// Ends with a word on what went wrong with a file.
+fn or_end<T>(work: std::io::Result<T>, path: &str) -> T {
+    work.unwrap_or_else(|error| {
+        eprintln!("compare: {path}: {error}");
+        std::process::exit(2);
+    })
+}
+
+/// Prints the tables; a disagreement is a failure.
+fn end(run: &Run) {
+    run.book.print();
+    if !run.book.agreed() {
+        std::process::exit(1);
+    }
+}
+
 fn main() {
     sides::silence_expected_panics();
     let arguments: Vec<String> = std::env::args().skip(1).collect();
@@ -77,17 +97,21 @@ fn main() {
         None => usual,
         Some(text) => text.parse().unwrap_or_else(|_| usage()),
     };
-    let run = match arguments.first().map(String::as_str) {
-        Some("run") => compare(number(1, 1), number(2, 100_000)),
+    let path = || arguments.get(1).unwrap_or_else(|| usage());
+    match arguments.first().map(String::as_str) {
+        Some("run") => end(&compare(number(1, 1), number(2, 100_000))),
+        Some("classes") => {
+            let mut run = Run::new(1);
+            or_end(classes::compare(&mut run, Path::new(path())), path());
+            end(&run);
+        }
+        Some("starts") => arguments[1..].iter().for_each(|file| or_end(classes::print_starts(Path::new(file)), file)),
+        Some("sample") => or_end(std::fs::write(path(), sample::sample(number(2, sample::SEED))), path()),
         _ => usage(),
-    };
-    run.book.print();
-    if !run.book.agreed() {
-        std::process::exit(1);
     }
 }
 
 fn usage() -> ! {
-    eprintln!("compare: run [SEED] [COUNT]");
+    eprintln!("compare: run [SEED] [COUNT] | classes FOLDER | starts FILE.. | sample FILE [SEED]");
     std::process::exit(2);
 }

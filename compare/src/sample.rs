@@ -1,0 +1,120 @@
+//! A stored sample: inputs with the Rust's own answers, for a program that runs where the Rust is not at hand. It has only inputs
+//! of which no listed difference holds.
+//!
+//! A record is a byte for its kind, then the input and the expected text, each behind its length in two bytes, high byte first.
+use crate::descriptors::{made, STRICT_WRAPPED};
+use crate::layout::{self, Wrong};
+use crate::make;
+use crate::random::Random;
+use crate::rule::Facts;
+use crate::sides::{Build, Wrapped};
+use korsepal::Answer;
+
+/// The seed of the stored sample.
+pub const SEED: u64 = 2_026;
+
+/// How many cases, and how many descriptors.
+const COUNT: usize = 3_000;
+
+/// The spaces that the expected answers of cases are for.
+const ROOM: usize = 64;
+const OUTPUT: usize = 256;
+
+/// The longest input, and what most inputs stay below.
+const LONGEST: usize = 512;
+const USUAL: usize = 72;
+
+fn put(to: &mut Vec<u8>, kind: u8, input: &[u8], expected: &[u8]) {
+    to.push(kind);
+    for text in [input, expected] {
+        to.extend((text.len() as u16).to_be_bytes());
+        to.extend(text);
+    }
+}
+
+/// The line that the program `npe` would print with these spaces.
+fn line(answer: Answer) -> Vec<u8> {
+    match answer {
+        Answer::Message { text, kind, scan, block } => [format!("0 {kind} {scan} {block} ").as_bytes(), text].concat(),
+        Answer::NoMessage => b"1 0 0 0".to_vec(),
+        Answer::Broken { at } => format!("2 0 0 0 {at}").into_bytes(),
+        Answer::NoRoom { at } => format!("3 0 0 0 {at}").into_bytes(),
+        Answer::NoOutput { needed } => format!("4 0 0 0 {needed}").into_bytes(),
+        Answer::TooLong => b"5 0 0 0".to_vec(),
+    }
+}
+
+/// The line of a case, and whether it tells of room; `None` where a listed difference holds of it.
+fn expected_line(bytes: &[u8]) -> Option<(Vec<u8>, bool)> {
+    match layout::read(bytes) {
+        Err(Wrong::TooLong) => Some((line(Answer::TooLong), false)),
+        Err(Wrong::At(at)) => Some((line(Answer::Broken { at: at as u64 }), false)),
+        Ok(parts) => {
+            let facts = Facts::of(&parts);
+            let answer = facts.answer(ROOM, OUTPUT);
+            let of_room = matches!(answer, Answer::NoRoom { .. } | Answer::NoOutput { .. });
+            (!facts.listed()).then(|| (line(answer), of_room))
+        }
+    }
+}
+
+/// Cases of every kind; short ones for the most part, and longer ones that tell of room.
+fn put_cases(to: &mut Vec<u8>, random: &mut Random) {
+    let mut count = 0;
+    while count < COUNT {
+        let (_, _, make) = make::KINDS[[0, 0, 0, 1, 2, 3, 3, 3, 4][random.below(9)]];
+        let bytes = make(random);
+        if bytes.len() > LONGEST {
+            continue;
+        }
+        let Some((line, of_room)) = expected_line(&bytes) else { continue };
+        if bytes.len() <= USUAL || random.once_in(if of_room { 2 } else { 16 }) {
+            put(to, 0, &bytes, &line);
+            count += 1;
+        }
+    }
+}
+
+/// Slots of the parameters, of the return, and the list; what can't be read is `-`.
+fn lenient(text: &str) -> Vec<u8> {
+    let (slots, list) = match Wrapped::parameters(text) {
+        Some((names, slots)) => (slots.to_string(), names.join(", ")),
+        None => ("-".to_string(), String::new()),
+    };
+    let returned = Wrapped::return_slots(text).map_or("-".to_string(), |slots| slots.to_string());
+    format!("{slots} {returned} {list}").into_bytes()
+}
+
+/// The refusal, or 0 and the numbers.
+fn strict(answer: Result<Vec<u64>, u32>) -> Vec<u8> {
+    match answer {
+        Err(refusal) => refusal.to_string().into_bytes(),
+        Ok(numbers) => numbers.iter().fold("0".to_string(), |text, number| format!("{text} {number}")).into_bytes(),
+    }
+}
+
+/// Descriptors for each of the three readers in turn.
+fn put_descriptors(to: &mut Vec<u8>, random: &mut Random) {
+    let mut count = 0;
+    while count < COUNT {
+        let (_, bytes) = made(random);
+        let Ok(text) = std::str::from_utf8(&bytes) else { continue };
+        let kind = 1 + (count % 3) as u8;
+        let expected = match kind {
+            1 => lenient(text),
+            2 => strict((STRICT_WRAPPED.as_type)(text)),
+            _ => strict((STRICT_WRAPPED.as_method)(text)),
+        };
+        put(to, kind, &bytes, &expected);
+        count += 1;
+    }
+}
+
+/// The bytes of the sample.
+pub fn sample(seed: u64) -> Vec<u8> {
+    let mut random = Random::new(seed);
+    let mut to = Vec::new();
+    put_cases(&mut to, &mut random);
+    put_descriptors(&mut to, &mut random);
+    to
+}
