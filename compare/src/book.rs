@@ -61,12 +61,14 @@ pub struct Book {
     kind: &'static str,
     counts: BTreeMap<&'static str, Counts>,
     order: Vec<&'static str>,
-    listed: [u64; LISTED.len()],
+    /// For each listed difference: the inputs of which it holds, where the checked build panics, where the wrapped one differs.
+    listed: [[u64; 3]; LISTED.len()],
     disagreements: u64,
     smallest: Vec<Disagreement>,
-    /// The inputs seen when the first disagreement came.
-    first_after: Option<u64>,
-    inputs: u64,
+    /// The cases and the descriptors seen, and which input brought the first disagreement.
+    cases: u64,
+    descriptors: u64,
+    first: Option<String>,
     answers: BTreeMap<&'static str, u64>,
     begun: Instant,
 }
@@ -77,23 +79,40 @@ impl Book {
             kind: "",
             counts: BTreeMap::new(),
             order: Vec::new(),
-            listed: [0; LISTED.len()],
+            listed: [[0; 3]; LISTED.len()],
             disagreements: 0,
             smallest: Vec::new(),
-            first_after: None,
-            inputs: 0,
+            cases: 0,
+            descriptors: 0,
+            first: None,
             answers: BTreeMap::new(),
             begun: Instant::now(),
         }
     }
 
-    /// A new input of a kind.
-    pub fn input(&mut self, kind: &'static str) {
-        self.kind = kind;
-        self.inputs += 1;
+    /// A kind has its row behind those announced before.
+    pub fn announce(&mut self, kind: &'static str) {
         if !self.counts.contains_key(kind) {
+            self.counts.insert(kind, Counts::default());
             self.order.push(kind);
         }
+    }
+
+    /// A new case of a kind.
+    pub fn case(&mut self, kind: &'static str) {
+        self.cases += 1;
+        self.input(kind);
+    }
+
+    /// A new descriptor of a kind.
+    pub fn descriptor(&mut self, kind: &'static str) {
+        self.descriptors += 1;
+        self.input(kind);
+    }
+
+    fn input(&mut self, kind: &'static str) {
+        self.kind = kind;
+        self.announce(kind);
         self.count(Column::Inputs);
     }
 
@@ -110,13 +129,21 @@ impl Book {
         *self.answers.entry(name).or_default() += 1;
     }
 
-    pub fn listed(&mut self, difference: Listed) {
-        self.listed[difference as usize] += 1;
+    /// A listed difference holds of the input at hand.
+    pub fn listed(&mut self, difference: Listed, checked_panics: bool, wrapped_differs: bool) {
+        let counts = &mut self.listed[difference as usize];
+        counts[0] += 1;
+        counts[1] += u64::from(checked_panics);
+        counts[2] += u64::from(wrapped_differs);
     }
 
     pub fn disagree(&mut self, input: &[u8], what: String, ours: String, theirs: String) {
         self.disagreements += 1;
-        self.first_after.get_or_insert(self.inputs);
+        if self.first.is_none() {
+            let (sort, number) =
+                if self.descriptors > 0 { ("descriptor", self.descriptors) } else { ("case", self.cases) };
+            self.first = Some(format!("{sort} {number}: {what}"));
+        }
         let place = self.smallest.partition_point(|kept| kept.input.len() <= input.len());
         if place < SHOWN {
             let what = format!("{} ({})", what, self.kind);
@@ -169,13 +196,13 @@ impl Book {
             println!("{name:<36} {count:>12}");
         }
         println!();
-        println!("{:<66} {:>9}", "listed difference", "inputs");
-        for ((number, text), count) in LISTED.iter().zip(self.listed) {
-            println!("{number} {text:<63} {count:>9}");
+        println!("{:<58} {:>9} {:>9} {:>9}", "listed difference", "inputs", "panics", "differs");
+        for ((number, text), [inputs, panics, differs]) in LISTED.iter().zip(self.listed) {
+            println!("{number} {text:<55} {inputs:>9} {panics:>9} {differs:>9}");
         }
         println!();
         let seconds = self.begun.elapsed().as_secs_f64();
-        println!("{} inputs in {seconds:.1} s, {:.0} a second", self.inputs, self.inputs as f64 / seconds);
+        println!("{} cases and {} descriptors in {seconds:.1} s", self.cases, self.descriptors);
         println!("disagreements {}", self.disagreements);
         self.print_disagreements();
     }
@@ -202,8 +229,8 @@ impl Book {
     }
 
     fn print_disagreements(&self) {
-        if let Some(inputs) = self.first_after {
-            println!("the first came at input {inputs}; the smallest:");
+        if let Some(first) = &self.first {
+            println!("the first is {first}; the smallest:");
         }
         for one in &self.smallest {
             println!("- {}", one.what);

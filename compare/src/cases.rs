@@ -65,37 +65,42 @@ impl Run {
     /// Everything but the lengths.
     fn fault(&mut self, bytes: &[u8], parts: &Parts) {
         let facts = Facts::of(parts);
-        self.count_facts(&facts);
-        self.reports(bytes, parts, &facts);
-        self.leaders(bytes, parts, &facts);
+        let message_panics = self.reports(bytes, parts, &facts);
+        let leader_panics = self.leaders(bytes, parts, &facts);
+        self.count_facts(&facts, message_panics || leader_panics);
         self.walks(bytes, parts, &facts);
         self.names(bytes, parts, &facts);
     }
 
-    fn count_facts(&mut self, facts: &Facts) {
+    /// Counts the case by its answer, and the listed differences that hold of it.
+    fn count_facts(&mut self, facts: &Facts, checked_panics: bool) {
         self.book.count(match facts.answer(usize::MAX, usize::MAX) {
             Answer::Message { kind: 2, .. } => Column::Cause,
             Answer::Message { .. } => Column::Action,
             _ => Column::NoMessage,
         });
         let listed = [
-            (facts.falling, Listed::FallingTable),
+            (facts.falling && !facts.wide, Listed::FallingTable),
             (facts.wide, Listed::WideTable),
             (facts.long_signature, Listed::SlotCounter),
-            (facts.holding == Holding::ByteByByte, Listed::NotText),
         ];
         for (holds, difference) in listed {
             if holds {
-                self.book.listed(difference);
+                self.book.listed(difference, checked_panics, facts.wrapped_differs);
             }
+        }
+        if facts.holding == Holding::ByteByByte {
+            self.book.listed(Listed::NotText, false, false);
         }
     }
 
-    /// The report with enough room, with some, and on a share of the cases with every room from none to enough.
-    fn reports(&mut self, bytes: &[u8], parts: &Parts, facts: &Facts) {
-        let panics = facts.falling || facts.wide || facts.long_signature;
+    /// The report with enough room, with some, and on a share of the cases with every room from none to enough. Whether the
+    /// checked build panics at the message.
+    fn reports(&mut self, bytes: &[u8], parts: &Parts, facts: &Facts) -> bool {
+        let listed = facts.falling || facts.wide || facts.long_signature;
         let checked = facts.checked_message(usize::from(parts.fault));
-        self.book.expect_checked(bytes, "message of the checked build", checked, facts.message.clone(), panics);
+        let panics = checked.is_none();
+        self.book.expect_checked(bytes, "message of the checked build", checked, facts.message.clone(), listed);
         let enough = facts.highest();
         let length = facts.message.as_ref().map_or(8, Vec::len);
         let (more, longer) = (self.random.below(3), self.random.below(5));
@@ -111,6 +116,7 @@ impl Run {
                 }
             }
         }
+        panics
     }
 
     fn report(&mut self, bytes: &[u8], facts: &Facts, room: usize, output: usize) {
@@ -118,19 +124,19 @@ impl Run {
         self.book.count(Column::Reports);
     }
 
-    /// The leader and the scan count of the case's fault and of others, also past the end.
-    fn leaders(&mut self, bytes: &[u8], parts: &Parts, facts: &Facts) {
+    /// The leader and the scan count of the case's fault and of another, also past the end. Whether the checked build panics.
+    fn leaders(&mut self, bytes: &[u8], parts: &Parts, facts: &Facts) -> bool {
         let length = parts.code.len();
-        self.leader(bytes, parts, facts, usize::from(parts.fault));
+        let panics = self.leader(bytes, parts, facts, usize::from(parts.fault));
         let other = match self.random.below(3) {
             0 => self.random.below(length + 1),
             1 => length + self.random.below(70_000),
             _ => usize::MAX >> self.random.below(40),
         };
-        self.leader(bytes, parts, facts, other);
+        self.leader(bytes, parts, facts, other) || panics
     }
 
-    fn leader(&mut self, bytes: &[u8], parts: &Parts, facts: &Facts, fault: usize) {
+    fn leader(&mut self, bytes: &[u8], parts: &Parts, facts: &Facts, fault: usize) -> bool {
         let greatest = usize::try_from(i64::MAX).expect("a usize of 64 bits");
         let scan = scan(&parts.code);
         let leader = Wrapped::leader(&scan.code, fault.min(greatest));
@@ -138,13 +144,15 @@ impl Run {
         let ours = korsepal::block_leader(&parts.code, fault as u64);
         self.book.expect(bytes, "leader and scan count", ours, theirs);
         let checked = quietly(|| Checked::leader(&parts.code, fault));
-        let below_zero = |answer: &Option<Option<usize>>| matches!(answer, Some(Some(target)) if *target > greatest);
-        if below_zero(&checked) {
-            self.book.listed(Listed::HugeFault);
+        let panics = checked.is_none();
+        if matches!(checked, Some(Some(target)) if target > greatest) {
+            let wrapped = Wrapped::leader(&parts.code, fault);
+            self.book.listed(Listed::HugeFault, false, wrapped != leader);
             self.book.expect(bytes, "a target below 0 is answered", fault > greatest, true);
         } else {
             self.book.expect_checked(bytes, "leader of the checked build", checked, leader, scan.may_panic());
         }
+        panics
     }
 
     /// The walk alone: the case's own, and one from elsewhere.

@@ -69,7 +69,7 @@ fn compare_method(run: &mut Run, seen: &mut Seen, class: &ClassFile, method: &Me
         // The first fault has the whole pool's members, the others those that the code cites.
         let members = if place == 0 { Members::Whole } else { Members::Cited };
         if let Some(bytes) = classfile::case_at(class, method, fault, members).bytes() {
-            run.book.input("class files");
+            run.book.case("class files");
             run.fault_of_method(&bytes, place == 0);
         }
     }

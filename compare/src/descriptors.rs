@@ -233,7 +233,7 @@ impl Run {
         let holding = Holding::of(std::iter::once(text));
         let held = holding.hold(text);
         if holding == Holding::ByteByByte {
-            self.book.listed(Listed::NotText);
+            self.book.listed(Listed::NotText, false, false);
         }
         self.lenient(text, &held, holding);
         self.strict(text, &held, holding, true);

@@ -18,8 +18,9 @@ pub enum Listed {
     HugeFault,
 }
 
+/// Their numbers and names.
 pub const LISTED: [(&str, &str); 5] = [
-    ("D1", "tableswitch with high < low: the checked build panics"),
+    ("D1", "tableswitch with high < low"),
     ("D2", "tableswitch with high - low outside 32 bits"),
     ("D3", "parameters' slots above 65,535"),
     ("D4", "texts that are not UTF-8, held byte by byte"),

@@ -32,10 +32,11 @@ fn compare(seed: u64, count: u64) -> Run {
 /// Cases of every kind, mixed, so that each is met early.
 fn cases(run: &mut Run, seed: u64, count: u64) {
     let mut random = Random::new(seed ^ 0x6361_7365);
+    make::KINDS.iter().for_each(|(name, _, _)| run.book.announce(name));
     let mix: Vec<usize> = (0..make::KINDS.len()).flat_map(|kind| vec![kind; make::KINDS[kind].1]).collect();
     for done in 0..count {
         let (name, _, make) = make::KINDS[mix[random.below(mix.len())]];
-        run.book.input(name);
+        run.book.case(name);
         run.case(&make(&mut random));
         if done % STEP == 0 {
             run.book.progress(done, count);
@@ -47,7 +48,7 @@ fn made_descriptors(run: &mut Run, seed: u64, count: u64) {
     let mut random = Random::new(seed ^ 0x6465_7363);
     for done in 0..count {
         let (name, text) = descriptors::made(&mut random);
-        run.book.input(name);
+        run.book.descriptor(name);
         run.descriptor(&text);
         if done % STEP == 0 {
             run.book.progress(done, count);
@@ -65,7 +66,7 @@ fn short_descriptors(run: &mut Run, count: u64) {
         }
         for number in 0..texts {
             descriptors::short(number as usize, letters as usize, &mut text);
-            run.book.input("every short descriptor");
+            run.book.descriptor("every short descriptor");
             run.descriptor(&text);
             if number % (10 * STEP) == 0 {
                 run.book.progress(number, texts);
@@ -90,6 +91,18 @@ fn end(run: &Run) {
     }
 }
 
+/// Writes the sample, and says whether the library answers as the Rust does.
+fn write_sample(path: &str, seed: u64) {
+    let bytes = sample::sample(seed);
+    or_end(std::fs::write(path, &bytes), path);
+    let ([cases, lists, types, methods], others) = sample::check(&bytes);
+    println!("{cases} cases, {lists} lenient, {types} strict types, {methods} strict methods in {} bytes", bytes.len());
+    println!("the library answers {others} of them otherwise");
+    if others > 0 {
+        std::process::exit(1);
+    }
+}
+
 fn main() {
     sides::silence_expected_panics();
     let arguments: Vec<String> = std::env::args().skip(1).collect();
@@ -106,7 +119,7 @@ fn main() {
             end(&run);
         }
         Some("starts") => arguments[1..].iter().for_each(|file| or_end(classes::print_starts(Path::new(file)), file)),
-        Some("sample") => or_end(std::fs::write(path(), sample::sample(number(2, sample::SEED))), path()),
+        Some("sample") => write_sample(path(), number(2, sample::SEED)),
         _ => usage(),
     }
 }

@@ -127,10 +127,11 @@ impl Maker<'_> {
         }
     }
 
-    /// The index of a member, mostly one of the table and of the kind.
+    /// The index of a member, mostly one of the table and of the kind, sometimes of the other kind.
     fn cited(&mut self, is_method: bool) -> (u16, Option<Member>) {
-        let of_kind: Vec<&Member> = self.members.iter().filter(|member| member.is_method == is_method).collect();
-        if of_kind.is_empty() || self.random.once_in(16) {
+        let kind = is_method != self.random.once_in(16);
+        let of_kind: Vec<&Member> = self.members.iter().filter(|member| member.is_method == kind).collect();
+        if of_kind.is_empty() || self.random.once_in(24) {
             return (self.random.number(), None);
         }
         let member = of_kind[self.random.below(of_kind.len())].clone();
@@ -341,7 +342,8 @@ fn members(random: &mut Random) -> Vec<Member> {
             is_method,
             class: text(random, &CLASSES),
             name: text(random, &NAMES),
-            descriptor: if is_method { any_method(random) } else { any_type(random) },
+            // Some have a descriptor of the other kind.
+            descriptor: if is_method != random.once_in(8) { any_method(random) } else { any_type(random) },
         });
     }
     members
@@ -459,10 +461,10 @@ fn random_bytes(random: &mut Random) -> Vec<u8> {
 
 /// A case at some edge.
 fn boundary(random: &mut Random) -> Vec<u8> {
-    if random.once_in(1_500) {
+    if random.once_in(500) {
         return lay_out(&huge(random));
     }
-    if random.once_in(8_000) {
+    if random.once_in(3_000) {
         return longest(random);
     }
     let mut case = parts(random);
@@ -615,12 +617,10 @@ fn huge(random: &mut Random) -> Parts {
 /// A case of the greatest length, or one byte longer.
 fn longest(random: &mut Random) -> Vec<u8> {
     let mut case = parts(random);
-    let record = Record { start: 0, length: 0, slot: 0, name: vec![b'n'; 65_000] };
-    case.records = vec![record; 16];
+    case.records = vec![Record { name: vec![b'n'; 65_000], ..Record::default() }; 16];
     let wanted = crate::layout::LONGEST + random.below(2);
-    let missing = wanted - lay_out(&case).len();
-    case.records.push(Record { name: vec![b'n'; missing - 6], ..Record::default() });
-    let bytes = lay_out(&case);
-    case.records[16].name.truncate(missing - 6 - (bytes.len().saturating_sub(wanted)));
+    // The last record has three numbers of a byte and a length of two.
+    let missing = wanted - lay_out(&case).len() - 5;
+    case.records.push(Record { name: vec![b'n'; missing], ..Record::default() });
     lay_out(&case)
 }

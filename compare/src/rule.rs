@@ -82,6 +82,8 @@ pub struct Facts {
     pub wide: bool,
     /// The slots of the parameters pass 65,535.
     pub long_signature: bool,
+    /// The wrapped build's own message is another than document 01's.
+    pub wrapped_differs: bool,
     pub action: Option<Vec<u8>>,
     pub message: Option<Vec<u8>>,
     pub scan: usize,
@@ -111,14 +113,16 @@ impl Facts {
         let checked = Checked::over(parts, &whole);
         let scan = scan(code);
         let leader = Wrapped::leader(&scan.code, fault);
-        let message =
-            if scan.wide { composed(&wrapped, code, leader, fault) } else { wrapped.message(fault) };
+        let message = if scan.wide { composed(&wrapped, code, leader, fault) } else { wrapped.message(fault) };
+        let wrapped_differs =
+            (scan.wide || cut.is_some()) && Wrapped::over(parts, &whole).message(fault) != message;
         let holding = whole.holding;
         Facts {
             holding,
             falling: scan.falling,
             wide: scan.wide,
             long_signature: cut.is_some(),
+            wrapped_differs,
             action: wrapped.action(code, fault).map(|(action, _)| holding.release(action)),
             message: message.map(|message| holding.release(message)),
             scan: scan.count,

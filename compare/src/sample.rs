@@ -8,7 +8,7 @@ use crate::make;
 use crate::random::Random;
 use crate::rule::Facts;
 use crate::sides::{Build, Wrapped};
-use korsepal::Answer;
+use korsepal::{Answer, Parameters};
 
 /// The seed of the stored sample.
 pub const SEED: u64 = 2_026;
@@ -108,6 +108,54 @@ fn put_descriptors(to: &mut Vec<u8>, random: &mut Random) {
         put(to, kind, &bytes, &expected);
         count += 1;
     }
+}
+
+/// The library's text for an input of a kind.
+fn library_text(kind: u8, input: &[u8]) -> Vec<u8> {
+    let mut numbers = [0; 4 * LONGEST];
+    let mut output = [0; 8 * LONGEST];
+    let mut read = |reader: fn(&[u8], &mut [u64]) -> Result<u64, u32>| {
+        let count = reader(input, &mut numbers)?;
+        Ok(numbers[..4 * count as usize].to_vec())
+    };
+    match kind {
+        0 => line(korsepal::report(input, &mut [0; ROOM], &mut [0; OUTPUT])),
+        1 => {
+            let (slots, list) = match korsepal::parameters(input, &mut output) {
+                Parameters::Read { list, slots } => (slots.to_string(), list),
+                _ => ("-".to_string(), &[][..]),
+            };
+            let returned = korsepal::return_slots(input).map_or("-".to_string(), |slots| slots.to_string());
+            [format!("{slots} {returned} ").as_bytes(), list].concat()
+        }
+        2 => strict(read(korsepal::parse_type)),
+        _ => strict(read(korsepal::parse_method)),
+    }
+}
+
+/// The records of a sample by kind, and how many of them the library answers otherwise.
+pub fn check(sample: &[u8]) -> ([usize; 4], usize) {
+    let mut left = sample;
+    let mut text = |count: usize| {
+        let (taken, rest) = left.split_at(count);
+        left = rest;
+        taken
+    };
+    let mut counts = [0; 4];
+    let mut others = 0;
+    let mut at = 0;
+    while at < sample.len() {
+        let kind = text(1)[0];
+        let mut behind_length = || {
+            let length = text(2);
+            text(usize::from(u16::from_be_bytes([length[0], length[1]])))
+        };
+        let (input, expected) = (behind_length(), behind_length());
+        at += 5 + input.len() + expected.len();
+        counts[usize::from(kind)] += 1;
+        others += usize::from(library_text(kind, input) != expected);
+    }
+    (counts, others)
 }
 
 /// The bytes of the sample.
