@@ -468,7 +468,7 @@ fn boundary(random: &mut Random) -> Vec<u8> {
         return longest(random);
     }
     let mut case = parts(random);
-    match random.below(13) {
+    match random.below(14) {
         0 => case.code.clear(),
         1 => case.fault = (case.code.len() + random.below(3)) as u16 - random.below(2).min(case.code.len()) as u16,
         2 => many_dimensions(random, &mut case),
@@ -481,6 +481,7 @@ fn boundary(random: &mut Random) -> Vec<u8> {
         9 => case.code.truncate(usize::from(case.fault) + random.below(4)),
         10 => case.code = into_an_instruction(random, &mut case.fault),
         11 => case.members.iter_mut().for_each(|member| member.name = b"<init>".to_vec()),
+        12 => long_names(random, &mut case),
         _ => case.records.iter_mut().for_each(|record| record.name.clear()),
     }
     lay_out(&case)
@@ -511,6 +512,19 @@ fn not_utf8(random: &mut Random, case: &mut Parts) {
         }
     }
     case.records.iter_mut().for_each(|record| odd(random, &mut record.name));
+}
+
+/// One long name, of a record and of a member.
+fn long_names(random: &mut Random, case: &mut Parts) {
+    let name = vec![b'n'; random.between(120, 260)];
+    if !case.records.is_empty() {
+        let place = random.below(case.records.len());
+        case.records[place] = Record { start: 0, length: 65_535, slot: random.below(4) as u16, name: name.clone() };
+    }
+    if !case.members.is_empty() {
+        let place = random.below(case.members.len());
+        case.members[place].name = name;
+    }
 }
 
 /// Signatures about their colons.

@@ -9,12 +9,17 @@ use crate::random::Random;
 use crate::rule::Facts;
 use crate::sides::{Build, Wrapped};
 use korsepal::{Answer, Parameters};
+use std::collections::HashMap;
 
 /// The seed of the stored sample.
 pub const SEED: u64 = 2_026;
 
-/// How many cases, and how many descriptors.
-const COUNT: usize = 3_000;
+/// How many cases there are of each sort: a message with its cause, an action alone, then the answers 1 to 4.
+const CASES: [usize; 6] = [1_000, 780, 560, 520, 90, 50];
+
+/// How many descriptors there are for each reader, and how many of one answer at most.
+const DESCRIPTORS: usize = 1_000;
+const OF_ONE_ANSWER: usize = 150;
 
 /// The spaces that the expected answers of cases are for.
 const ROOM: usize = 64;
@@ -22,7 +27,7 @@ const OUTPUT: usize = 256;
 
 /// The longest input, and what most inputs stay below.
 const LONGEST: usize = 512;
-const USUAL: usize = 72;
+const USUAL: usize = 60;
 
 fn put(to: &mut Vec<u8>, kind: u8, input: &[u8], expected: &[u8]) {
     to.push(kind);
@@ -44,33 +49,45 @@ fn line(answer: Answer) -> Vec<u8> {
     }
 }
 
-/// The line of a case, and whether it tells of room; `None` where a listed difference holds of it.
-fn expected_line(bytes: &[u8]) -> Option<(Vec<u8>, bool)> {
+/// The line of a case and its sort; `None` where a listed difference holds of it.
+fn expected_line(bytes: &[u8]) -> Option<(Vec<u8>, usize)> {
     match layout::read(bytes) {
-        Err(Wrong::TooLong) => Some((line(Answer::TooLong), false)),
-        Err(Wrong::At(at)) => Some((line(Answer::Broken { at: at as u64 }), false)),
+        Err(Wrong::TooLong) => None,
+        Err(Wrong::At(at)) => Some((line(Answer::Broken { at: at as u64 }), 3)),
         Ok(parts) => {
             let facts = Facts::of(&parts);
             let answer = facts.answer(ROOM, OUTPUT);
-            let of_room = matches!(answer, Answer::NoRoom { .. } | Answer::NoOutput { .. });
-            (!facts.listed()).then(|| (line(answer), of_room))
+            (!facts.listed()).then(|| (line(answer), sort(&answer)))
         }
     }
 }
 
-/// Cases of every kind; short ones for the most part, and longer ones that tell of room.
+/// The place of an answer in `CASES`.
+fn sort(answer: &Answer) -> usize {
+    match answer {
+        Answer::Message { kind: 2, .. } => 0,
+        Answer::Message { .. } => 1,
+        Answer::NoMessage => 2,
+        Answer::NoRoom { .. } => 4,
+        Answer::NoOutput { .. } => 5,
+        Answer::Broken { .. } | Answer::TooLong => 3,
+    }
+}
+
+/// Cases of every kind until there are enough of each sort; short ones for the most part, and longer ones that tell of room.
 fn put_cases(to: &mut Vec<u8>, random: &mut Random) {
-    let mut count = 0;
-    while count < COUNT {
-        let (_, _, make) = make::KINDS[[0, 0, 0, 1, 2, 3, 3, 3, 4][random.below(9)]];
+    let mut left = CASES;
+    while left.iter().any(|&left| left > 0) {
+        let (_, _, make) = make::KINDS[random.below(make::KINDS.len())];
         let bytes = make(random);
         if bytes.len() > LONGEST {
             continue;
         }
-        let Some((line, of_room)) = expected_line(&bytes) else { continue };
-        if bytes.len() <= USUAL || random.once_in(if of_room { 2 } else { 16 }) {
+        let Some((line, sort)) = expected_line(&bytes) else { continue };
+        let wanted = bytes.len() <= USUAL || sort >= 4 || random.once_in(200);
+        if wanted && left[sort] > 0 {
+            left[sort] -= 1;
             put(to, 0, &bytes, &line);
-            count += 1;
         }
     }
 }
@@ -93,20 +110,24 @@ fn strict(answer: Result<Vec<u64>, u32>) -> Vec<u8> {
     }
 }
 
-/// Descriptors for each of the three readers in turn.
-fn put_descriptors(to: &mut Vec<u8>, random: &mut Random) {
+/// Descriptors for one reader; of each refusal and count of slots no more than some.
+fn put_descriptors(to: &mut Vec<u8>, random: &mut Random, kind: u8, expected: fn(&str) -> Vec<u8>) {
     let mut count = 0;
-    while count < COUNT {
+    let mut answers: HashMap<Vec<u8>, usize> = HashMap::new();
+    while count < DESCRIPTORS {
         let (_, bytes) = made(random);
         let Ok(text) = std::str::from_utf8(&bytes) else { continue };
-        let kind = 1 + (count % 3) as u8;
-        let expected = match kind {
-            1 => lenient(text),
-            2 => strict((STRICT_WRAPPED.as_type)(text)),
-            _ => strict((STRICT_WRAPPED.as_method)(text)),
-        };
-        put(to, kind, &bytes, &expected);
-        count += 1;
+        if bytes.len() > USUAL && !random.once_in(20) {
+            continue;
+        }
+        let expected = expected(text);
+        let first = expected.split(|&byte| byte == b' ').next().unwrap_or_default().to_vec();
+        let of_answer = answers.entry(first).or_default();
+        if *of_answer < OF_ONE_ANSWER {
+            *of_answer += 1;
+            count += 1;
+            put(to, kind, &bytes, &expected);
+        }
     }
 }
 
@@ -163,6 +184,8 @@ pub fn sample(seed: u64) -> Vec<u8> {
     let mut random = Random::new(seed);
     let mut to = Vec::new();
     put_cases(&mut to, &mut random);
-    put_descriptors(&mut to, &mut random);
+    put_descriptors(&mut to, &mut random, 1, lenient);
+    put_descriptors(&mut to, &mut random, 2, |text| strict((STRICT_WRAPPED.as_type)(text)));
+    put_descriptors(&mut to, &mut random, 3, |text| strict((STRICT_WRAPPED.as_method)(text)));
     to
 }
