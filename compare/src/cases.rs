@@ -4,7 +4,7 @@ use crate::differences::{scan, table, within_bounds, Listed, Table};
 use crate::layout::{self, Parts, Wrong};
 use crate::random::Random;
 use crate::room::Lender;
-use crate::rule::{Facts, Walked};
+use crate::rule::{Facts, Landings, Walked};
 use crate::sides::{quietly, Build, Checked, Holding, Wrapped};
 use korsepal::{Answer, Leader, Name, Walk};
 
@@ -16,11 +16,13 @@ pub struct Run {
     pub book: Book,
     pub lender: Lender,
     pub random: Random,
+    /// The landings of the method at hand.
+    landings: Option<Landings>,
 }
 
 impl Run {
     pub fn new(seed: u64) -> Self {
-        Run { book: Book::new(), lender: Lender::default(), random: Random::new(seed) }
+        Run { book: Book::new(), lender: Lender::default(), random: Random::new(seed), landings: None }
     }
 
     /// Compares the two sides on the bytes of a case.
@@ -35,7 +37,10 @@ impl Run {
     pub fn fault_of_method(&mut self, bytes: &[u8], first: bool) {
         match layout::read(bytes) {
             Ok(parts) if first => self.whole_case(bytes, &parts),
-            Ok(parts) => self.fault(bytes, &parts),
+            Ok(parts) => {
+                let facts = Facts::with(&parts, &mut self.landings);
+                self.fault(bytes, &parts, &facts);
+            }
             Err(wrong) => self.broken_case(bytes, wrong),
         }
     }
@@ -58,18 +63,18 @@ impl Run {
     }
 
     fn whole_case(&mut self, bytes: &[u8], parts: &Parts) {
-        self.fault(bytes, parts);
+        self.landings = None;
+        self.fault(bytes, parts, &Facts::of(parts));
         self.lengths(bytes, &parts.code);
     }
 
     /// Everything but the lengths.
-    fn fault(&mut self, bytes: &[u8], parts: &Parts) {
-        let facts = Facts::of(parts);
-        let message_panics = self.reports(bytes, parts, &facts);
-        let leader_panics = self.leaders(bytes, parts, &facts);
-        self.count_facts(&facts, message_panics || leader_panics);
-        self.walks(bytes, parts, &facts);
-        self.names(bytes, parts, &facts);
+    fn fault(&mut self, bytes: &[u8], parts: &Parts, facts: &Facts) {
+        let message_panics = self.reports(bytes, parts, facts);
+        let leader_panics = self.leaders(bytes, parts, facts);
+        self.count_facts(facts, message_panics || leader_panics);
+        self.walks(bytes, parts, facts);
+        self.names(bytes, parts, facts);
     }
 
     /// Counts the case by its answer, and the listed differences that hold of it.
@@ -165,10 +170,10 @@ impl Run {
             let length = parts.code.len();
             let leader = self.random.below(length + 2);
             let fault = match self.random.below(8) {
-                0 => self.random.below(length + 8),
+                0 if length < 1_000 => self.random.below(length + 8),
                 _ => leader + self.random.below(24),
             };
-            let walked = Walked::new(&facts.wrapped, &parts.code, leader, fault);
+            let walked = Walked::new(&facts.wrapped, &parts.code, &mut Landings::new(leader), fault);
             self.walk(bytes, parts, facts, leader, fault, &walked);
         }
     }

@@ -9,6 +9,7 @@ mod layout;
 mod make;
 mod random;
 mod room;
+mod rows;
 mod rule;
 mod sample;
 mod sides;
@@ -23,7 +24,9 @@ const STEP: u64 = 2_000;
 /// The whole comparison: so many cases, so many made descriptors, and every short descriptor as the count allows.
 fn compare(seed: u64, count: u64) -> Run {
     let mut run = Run::new(seed);
+    rows::compare(&mut run);
     cases(&mut run, seed, count);
+    rows::compare_descriptors(&mut run);
     made_descriptors(&mut run, seed, count);
     short_descriptors(&mut run, count);
     run
@@ -113,6 +116,7 @@ fn main() {
     let path = || arguments.get(1).unwrap_or_else(|| usage());
     match arguments.first().map(String::as_str) {
         Some("run") => end(&compare(number(1, 1), number(2, 100_000))),
+        Some("listed") => rows::print_listed(),
         Some("classes") => {
             let mut run = Run::new(1);
             or_end(classes::compare(&mut run, Path::new(path())), path());
@@ -125,6 +129,6 @@ fn main() {
 }
 
 fn usage() -> ! {
-    eprintln!("compare: run [SEED] [COUNT] | classes FOLDER | starts FILE.. | sample FILE [SEED]");
+    eprintln!("compare: run [SEED] [COUNT] | listed | classes FOLDER | starts FILE.. | sample FILE [SEED]");
     std::process::exit(2);
 }

@@ -11,10 +11,45 @@ use korsepal::{Answer, Walk};
 const LONGEST_WALKED: usize = 5;
 
 /// The list after a completed instruction.
+#[derive(Clone, Copy)]
 pub struct Landing {
     /// The index of the instruction.
     pub by: usize,
+    /// Where the walk stands then.
+    place: usize,
     pub height: usize,
+}
+
+/// The landings from a leader, as far as they were asked for. Those of a nearer fault are the first of them.
+pub struct Landings {
+    leader: usize,
+    found: Vec<Landing>,
+    /// No more follow.
+    ended: bool,
+}
+
+impl Landings {
+    pub fn new(leader: usize) -> Self {
+        Landings { leader, found: Vec::new(), ended: false }
+    }
+
+    /// The landings up to the first at or past a fault.
+    fn up_to(&mut self, side: &impl Build, code: &[u8], fault: usize) -> &[Landing] {
+        let mut at = self.found.last().map_or(self.leader, |landing| landing.place);
+        while at < fault && !self.ended {
+            let mut places = (1..=LONGEST_WALKED).filter_map(|length| at.checked_add(length));
+            let next = places.find_map(|place| Some((place, side.walk(code, self.leader, place)?.len())));
+            match next {
+                Some((place, height)) => {
+                    self.found.push(Landing { by: at, place, height });
+                    at = place;
+                }
+                None => self.ended = true,
+            }
+        }
+        let count = self.found.partition_point(|landing| landing.by < fault);
+        &self.found[..count]
+    }
 }
 
 /// A walk of the Rust, from a leader to a fault.
@@ -34,20 +69,13 @@ fn cell(origin: Origin) -> u64 {
 }
 
 impl Walked {
-    pub fn new(side: &impl Build, code: &[u8], leader: usize, fault: usize) -> Self {
-        let mut walked = Walked { landings: Vec::new(), cells: (leader == fault).then(Vec::new) };
-        let mut at = leader;
-        while at < fault {
-            let places = (1..=LONGEST_WALKED).filter_map(|length| at.checked_add(length));
-            let next = places.into_iter().find_map(|place| Some((place, side.walk(code, leader, place)?)));
-            let Some((place, list)) = next else { break };
-            walked.landings.push(Landing { by: at, height: list.len() });
-            if place == fault {
-                walked.cells = Some(list.into_iter().map(cell).collect());
-            }
-            at = place;
+    /// The walk to a fault, over landings of the same leader and code.
+    pub fn new(side: &impl Build, code: &[u8], landings: &mut Landings, fault: usize) -> Self {
+        let leader = landings.leader;
+        Walked {
+            landings: landings.up_to(side, code, fault).to_vec(),
+            cells: side.walk(code, leader, fault).map(|list| list.into_iter().map(cell).collect()),
         }
-        walked
     }
 
     /// The greatest height.
@@ -104,6 +132,11 @@ fn composed(side: &Wrapped, code: &[u8], leader: Option<usize>, fault: usize) ->
 
 impl Facts {
     pub fn of(parts: &Parts) -> Self {
+        Self::with(parts, &mut None)
+    }
+
+    /// The facts of a case, over landings that an earlier fault of the same method left.
+    pub fn with(parts: &Parts, landings: &mut Option<Landings>) -> Self {
         let code = &parts.code;
         let fault = usize::from(parts.fault);
         let cut = cut_signature(&parts.signature, parts.flags & 8 != 0);
@@ -117,6 +150,11 @@ impl Facts {
         let wrapped_differs =
             (scan.wide || cut.is_some()) && Wrapped::over(parts, &whole).message(fault) != message;
         let holding = whole.holding;
+        let walked = leader.map(|leader| {
+            let kept = landings.take().filter(|kept| kept.leader == leader);
+            let landings = landings.insert(kept.unwrap_or(Landings::new(leader)));
+            Walked::new(&wrapped, code, landings, fault)
+        });
         Facts {
             holding,
             falling: scan.falling,
@@ -127,7 +165,7 @@ impl Facts {
             message: message.map(|message| holding.release(message)),
             scan: scan.count,
             leader,
-            walked: leader.map(|leader| Walked::new(&wrapped, code, leader, fault)),
+            walked,
             checked,
             wrapped,
         }

@@ -38,7 +38,7 @@ fn put(to: &mut Vec<u8>, kind: u8, input: &[u8], expected: &[u8]) {
 }
 
 /// The line that the program `npe` would print with these spaces.
-fn line(answer: Answer) -> Vec<u8> {
+pub fn line(answer: Answer) -> Vec<u8> {
     match answer {
         Answer::Message { text, kind, scan, block } => [format!("0 {kind} {scan} {block} ").as_bytes(), text].concat(),
         Answer::NoMessage => b"1 0 0 0".to_vec(),
@@ -93,7 +93,7 @@ fn put_cases(to: &mut Vec<u8>, random: &mut Random) {
 }
 
 /// Slots of the parameters, of the return, and the list; what can't be read is `-`.
-fn lenient(text: &str) -> Vec<u8> {
+pub fn lenient(text: &str) -> Vec<u8> {
     let (slots, list) = match Wrapped::parameters(text) {
         Some((names, slots)) => (slots.to_string(), names.join(", ")),
         None => ("-".to_string(), String::new()),
@@ -103,7 +103,7 @@ fn lenient(text: &str) -> Vec<u8> {
 }
 
 /// The refusal, or 0 and the numbers.
-fn strict(answer: Result<Vec<u64>, u32>) -> Vec<u8> {
+pub fn strict(answer: Result<Vec<u64>, u32>) -> Vec<u8> {
     match answer {
         Err(refusal) => refusal.to_string().into_bytes(),
         Ok(numbers) => numbers.iter().fold("0".to_string(), |text, number| format!("{text} {number}")).into_bytes(),
