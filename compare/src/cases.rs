@@ -8,8 +8,9 @@ use crate::rule::{Facts, Landings, Walked};
 use crate::sides::{quietly, Build, Checked, Holding, Wrapped};
 use korsepal::{Answer, Leader, Name, Walk};
 
-/// One case in so many is tried with every room from none to enough.
+/// One case in so many is tried with every stack from none to enough, and one with every output.
 const ALL_ROOMS: usize = 32;
+const ALL_OUTPUTS: usize = 128;
 
 /// What goes through a run.
 pub struct Run {
@@ -99,8 +100,8 @@ impl Run {
         }
     }
 
-    /// The report with enough room, with some, and on a share of the cases with every room from none to enough. Whether the
-    /// checked build panics at the message.
+    /// The report with enough room, with some, and on a share of the cases with every room from none to enough. Answers whether
+    /// the checked build panics at the message.
     fn reports(&mut self, bytes: &[u8], parts: &Parts, facts: &Facts) -> bool {
         let listed = facts.falling || facts.wide || facts.long_signature;
         let checked = facts.checked_message(usize::from(parts.fault));
@@ -121,6 +122,9 @@ impl Run {
                 }
             }
         }
+        if self.random.once_in(ALL_OUTPUTS) && length < 1_000 {
+            (0..=length + 1).for_each(|output| self.report(bytes, facts, enough, output));
+        }
         panics
     }
 
@@ -129,7 +133,8 @@ impl Run {
         self.book.count(Column::Reports);
     }
 
-    /// The leader and the scan count of the case's fault and of another, also past the end. Whether the checked build panics.
+    /// The leader and the scan count of the case's fault and of another, also past the end. Answers whether the checked build
+    /// panics.
     fn leaders(&mut self, bytes: &[u8], parts: &Parts, facts: &Facts) -> bool {
         let length = parts.code.len();
         let panics = self.leader(bytes, parts, facts, usize::from(parts.fault));
