@@ -9,7 +9,8 @@ const SHOWN: usize = 5;
 
 /// The columns: those of cases, then those of descriptors.
 const COLUMNS: [&str; 13] = [
-    "inputs", "cause", "action", "none", "broken", "too long", "reports", "walks", "names", "lengths", "lists", "types", "methods",
+    "inputs", "cause", "action", "none", "broken", "too long", "reports", "walks", "names", "lengths", "lists",
+    "types", "methods",
 ];
 const CASE_COLUMNS: &[Column] = &[
     Column::Inputs,
@@ -70,6 +71,8 @@ pub struct Book {
     descriptors: u64,
     first: Option<String>,
     answers: BTreeMap<&'static str, u64>,
+    /// The strict readers' answers, 0 and the refusals: as a type, as a method.
+    strict: [[u64; 14]; 2],
     begun: Instant,
 }
 
@@ -86,6 +89,7 @@ impl Book {
             descriptors: 0,
             first: None,
             answers: BTreeMap::new(),
+            strict: [[0; 14]; 2],
             begun: Instant::now(),
         }
     }
@@ -127,6 +131,14 @@ impl Book {
     /// Counts an answer of the library by its name.
     pub fn answer(&mut self, name: &'static str) {
         *self.answers.entry(name).or_default() += 1;
+    }
+
+    /// Counts an answer of a strict reader: 0 or a refusal.
+    pub fn strict(&mut self, as_type: bool, number: usize) {
+        self.strict[usize::from(!as_type)][number] += 1;
+        if number == 0 {
+            self.count(if as_type { Column::Types } else { Column::Methods });
+        }
     }
 
     /// A listed difference holds of the input at hand.
@@ -171,7 +183,9 @@ impl Book {
         match checked {
             Some(answer) => self.expect(input, what, expected, answer),
             None if panic_is_listed => {}
-            None => self.disagree(input, what.to_string(), format!("{expected:?}"), "the checked build panics".to_string()),
+            None => {
+                self.disagree(input, what.to_string(), format!("{expected:?}"), "the checked build panics".to_string())
+            }
         }
     }
 
@@ -192,10 +206,7 @@ impl Book {
         eprintln!();
         self.print_counts("kind of case", CASE_COLUMNS);
         self.print_counts("kind of descriptor", DESCRIPTOR_COLUMNS);
-        for (name, count) in &self.answers {
-            println!("{name:<36} {count:>12}");
-        }
-        println!();
+        self.print_answers();
         println!("{:<58} {:>9} {:>9} {:>9}", "listed difference", "inputs", "panics", "differs");
         for ((number, text), [inputs, panics, differs]) in LISTED.iter().zip(self.listed) {
             println!("{number} {text:<55} {inputs:>9} {panics:>9} {differs:>9}");
@@ -226,6 +237,21 @@ impl Book {
         }
         print_row("all", &sums, columns);
         println!();
+    }
+
+    /// The library's answers to reports, and the strict readers' answers.
+    fn print_answers(&self) {
+        for (name, count) in &self.answers {
+            println!("{name:<28} {count:>9}");
+        }
+        println!();
+        if self.descriptors > 0 {
+            println!("{:<18} {:>9} {:>9}", "strict answer", "type", "method");
+            for (number, (as_type, as_method)) in self.strict[0].iter().zip(self.strict[1]).enumerate() {
+                println!("{number:<18} {as_type:>9} {as_method:>9}");
+            }
+            println!();
+        }
     }
 
     fn print_disagreements(&self) {

@@ -1,5 +1,5 @@
 //! One descriptor on both sides: the lenient readers and the strict ones; and descriptors to compare.
-use crate::book::{Book, Column};
+use crate::book::Column;
 use crate::cases::Run;
 use crate::differences::Listed;
 use crate::make::damage;
@@ -13,8 +13,20 @@ pub const ALPHABET: &[u8; 10] = b"()[LIJV;a/";
 
 /// A base type with its letter.
 fn base(random: &mut Random) -> Vec<u8> {
-    let bases: [&[u8]; 12] =
-        [b"B", b"C", b"D", b"F", b"I", b"J", b"S", b"Z", b"La/B;", b"Ljava/lang/String;", b"Ljava/lang/Object;", b"L\xc3\xa9;"];
+    let bases: [&[u8]; 12] = [
+        b"B",
+        b"C",
+        b"D",
+        b"F",
+        b"I",
+        b"J",
+        b"S",
+        b"Z",
+        b"La/B;",
+        b"Ljava/lang/String;",
+        b"Ljava/lang/Object;",
+        b"L\xc3\xa9;",
+    ];
     random.pick(&bases).to_vec()
 }
 
@@ -72,29 +84,39 @@ fn worsen(random: &mut Random, text: &mut Vec<u8>) {
     }
 }
 
-/// A descriptor of one of the kinds that are made, and the kind's name.
+/// The kinds of descriptors that are made.
+pub const KINDS: [&str; 6] = [
+    "good descriptor",
+    "worsened descriptor",
+    "damaged descriptor",
+    "many dimensions",
+    "random letters",
+    "random descriptor",
+];
+
+/// A descriptor of one of the kinds, and the kind's name.
 pub fn made(random: &mut Random) -> (&'static str, Vec<u8>) {
     match random.below(16) {
-        0..=4 => ("good descriptor", if random.once_in(3) { good_type(random) } else { good_method(random) }),
+        0..=4 => (KINDS[0], if random.once_in(3) { good_type(random) } else { good_method(random) }),
         5..=9 => {
             let mut text = if random.once_in(3) { good_type(random) } else { good_method(random) };
             worsen(random, &mut text);
-            ("worsened descriptor", text)
+            (KINDS[1], text)
         }
         10..=11 => {
             let mut text = good_method(random);
             damage(random, &mut text);
-            ("damaged descriptor", text)
+            (KINDS[2], text)
         }
-        12 if random.once_in(4) => ("many dimensions", many_dimensions(random)),
+        12 if random.once_in(4) => (KINDS[3], many_dimensions(random)),
         12..=14 => {
             let letters = b"()[LIJVDBCFSZ;a/.\xff";
             let count = random.below(14);
-            ("random letters", (0..count).map(|_| letters[random.below(letters.len())]).collect())
+            (KINDS[4], (0..count).map(|_| letters[random.below(letters.len())]).collect())
         }
         _ => {
             let count = random.below(12);
-            ("random descriptor", random.bytes(count))
+            (KINDS[5], random.bytes(count))
         }
     }
 }
@@ -280,7 +302,7 @@ impl Run {
         if holding == Holding::ByteByByte {
             expected = expected.map(|numbers| narrowed(numbers, held));
         }
-        count_strict(&mut self.book, as_type, &expected);
+        self.book.strict(as_type, expected.as_ref().err().map_or(0, |&refusal| refusal as usize));
         let enough = expected.as_ref().map_or(4, Vec::len);
         self.lender.strict(&mut self.book, text, what, reader, enough, &expected);
         if self.random.once_in(8) {
@@ -288,25 +310,4 @@ impl Run {
             self.lender.strict(&mut self.book, text, what, reader, less, &expected);
         }
     }
-}
-
-/// Counts the refusals by their numbers.
-fn count_strict(book: &mut Book, as_type: bool, expected: &Result<Vec<u64>, u32>) {
-    const TYPE: [&str; 14] = [
-        "strict type: read", "strict type: refusal  1", "strict type: refusal  2", "strict type: refusal  3",
-        "strict type: refusal  4", "strict type: refusal  5", "strict type: refusal  6", "strict type: refusal  7",
-        "strict type: refusal  8", "strict type: refusal  9", "strict type: refusal 10", "strict type: refusal 11",
-        "strict type: refusal 12", "strict type: refusal 13",
-    ];
-    const METHOD: [&str; 14] = [
-        "strict method: read", "strict method: refusal  1", "strict method: refusal  2", "strict method: refusal  3",
-        "strict method: refusal  4", "strict method: refusal  5", "strict method: refusal  6", "strict method: refusal  7",
-        "strict method: refusal  8", "strict method: refusal  9", "strict method: refusal 10", "strict method: refusal 11",
-        "strict method: refusal 12", "strict method: refusal 13",
-    ];
-    if expected.is_ok() {
-        book.count(if as_type { Column::Types } else { Column::Methods });
-    }
-    let number = expected.as_ref().err().map_or(0, |&refusal| refusal as usize);
-    book.answer(if as_type { TYPE[number] } else { METHOD[number] });
 }

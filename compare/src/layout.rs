@@ -122,7 +122,13 @@ pub fn read(bytes: &[u8]) -> Result<Parts, Wrong> {
 
 fn put_number(to: &mut Vec<u8>, number: u16) {
     let groups = [number & 127, (number >> 7) & 127, number >> 14];
-    let count = if groups[2] > 0 { 3 } else if groups[1] > 0 { 2 } else { 1 };
+    let count = if groups[2] > 0 {
+        3
+    } else if groups[1] > 0 {
+        2
+    } else {
+        1
+    };
     for (place, group) in groups[..count].iter().enumerate() {
         to.push(*group as u8 | if place + 1 < count { 128 } else { 0 });
     }

@@ -49,6 +49,7 @@ fn cases(run: &mut Run, seed: u64, count: u64) {
 
 fn made_descriptors(run: &mut Run, seed: u64, count: u64) {
     let mut random = Random::new(seed ^ 0x6465_7363);
+    descriptors::KINDS.iter().for_each(|name| run.book.announce(name));
     for done in 0..count {
         let (name, text) = descriptors::made(&mut random);
         run.book.descriptor(name);

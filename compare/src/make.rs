@@ -383,8 +383,7 @@ fn parts(random: &mut Random) -> Parts {
         1 => (0, random.below(12), random.below(8)),
         _ => (random.below(6), random.below(8), random.below(6)),
     };
-    let mut maker =
-        Maker { random, members, code: Vec::new(), starts: Vec::new(), branches: Vec::new(), height: 0 };
+    let mut maker = Maker { random, members, code: Vec::new(), starts: Vec::new(), branches: Vec::new(), height: 0 };
     maker.around(ahead);
     if ahead > 0 && !maker.random.once_in(4) {
         let opcode = [167, 153, 198, 200][maker.random.below(4)];
@@ -489,7 +488,8 @@ fn boundary(random: &mut Random) -> Vec<u8> {
 
 /// 254 to 257 dimensions in every descriptor.
 fn many_dimensions(random: &mut Random, case: &mut Parts) {
-    let array = [&b"[".repeat(random.between(254, 257))[..], random.pick(&[b"I" as &[u8], b"La/B;", b"J", b"V"])].concat();
+    let array =
+        [&b"[".repeat(random.between(254, 257))[..], random.pick(&[b"I" as &[u8], b"La/B;", b"J", b"V"])].concat();
     for member in &mut case.members {
         member.descriptor = if member.is_method { [b"(I", &array[..], b")V"].concat() } else { array.clone() };
     }
@@ -530,7 +530,20 @@ fn long_names(random: &mut Random, case: &mut Parts) {
 /// Signatures about their colons.
 fn odd_signature(random: &mut Random) -> Vec<u8> {
     let odd: [&[u8]; 14] = [
-        b"", b":", b"::", b"m:", b"m:(", b":)I", b"m:JI", b"m:(I:J)V", b"m:(IV", b"m:(V)V", b"m:(La;", b"m:(La", b"m:[[I", b":(L;J)V",
+        b"",
+        b":",
+        b"::",
+        b"m:",
+        b"m:(",
+        b":)I",
+        b"m:JI",
+        b"m:(I:J)V",
+        b"m:(IV",
+        b"m:(V)V",
+        b"m:(La;",
+        b"m:(La",
+        b"m:[[I",
+        b":(L;J)V",
     ];
     text(random, &odd)
 }
@@ -605,7 +618,8 @@ fn huge(random: &mut Random) -> Parts {
             case.signature = [b":(", &b"J".repeat(count)[..], b"IIII"].concat();
         }
         1 => {
-            case.members = (1..=random.between(2_000, 9_000) as u16).map(|index| Member { index, ..Member::default() }).collect();
+            case.members =
+                (1..=random.between(2_000, 9_000) as u16).map(|index| Member { index, ..Member::default() }).collect();
         }
         2 => {
             let record = Record { start: 0, length: 65_535, slot: 9, name: b"n".to_vec() };

@@ -159,14 +159,24 @@ pub fn print_listed() {
     ];
     for (input, code) in codes {
         let library = format!("{:?}", korsepal::instruction_length(&code, 0));
-        print_line(input, library, words(quietly(|| Checked::length(&code, 0))), words(quietly(|| Wrapped::length(&code, 0))));
+        print_line(
+            input,
+            library,
+            words(quietly(|| Checked::length(&code, 0))),
+            words(quietly(|| Wrapped::length(&code, 0))),
+        );
     }
     print_slots("D3 local 1, static, :( and 32,768 J", [b":(", &b"J".repeat(32_768)[..]].concat());
     print_slots("D3 local 1, static, :( and 32,767 J and IIII", [b":(", &b"J".repeat(32_767)[..], b"IIII"].concat());
     let code = [0xa7, 0xff, 0xff, 0xb1];
     let library = format!("{:?}", korsepal::block_leader(&code, u64::MAX).leader);
     let checked = words(quietly(|| Checked::leader(&code, usize::MAX)));
-    print_line("D5 leader: a7 ff ff b1, fault 2^64 - 1", library, checked, words(quietly(|| Wrapped::leader(&code, usize::MAX))));
+    print_line(
+        "D5 leader: a7 ff ff b1, fault 2^64 - 1",
+        library,
+        checked,
+        words(quietly(|| Wrapped::leader(&code, usize::MAX))),
+    );
 }
 
 /// The name of local 1 by a long signature.

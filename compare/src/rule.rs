@@ -147,8 +147,7 @@ impl Facts {
         let scan = scan(code);
         let leader = Wrapped::leader(&scan.code, fault);
         let message = if scan.wide { composed(&wrapped, code, leader, fault) } else { wrapped.message(fault) };
-        let wrapped_differs =
-            (scan.wide || cut.is_some()) && Wrapped::over(parts, &whole).message(fault) != message;
+        let wrapped_differs = (scan.wide || cut.is_some()) && Wrapped::over(parts, &whole).message(fault) != message;
         let holding = whole.holding;
         let walked = leader.map(|leader| {
             let kept = landings.take().filter(|kept| kept.leader == leader);
