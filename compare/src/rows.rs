@@ -83,19 +83,25 @@ const LENIENT_ROWS: [(&str, &str); 6] = [
 ];
 
 /// A descriptor, whether it is read as a method, and the refusal or the numbers.
-fn strict_rows() -> Vec<(String, bool, &'static str)> {
+fn strict_rows() -> Vec<(String, bool, String)> {
+    let row = |text: &str, as_method, expected: &str| (text.to_string(), as_method, expected.to_string());
+    let integers = format!("({})V", "I".repeat(256));
     vec![
-        ("()".to_string(), true, "1"),
-        ("())".to_string(), true, "12"),
-        ("[".repeat(255) + "I", false, "0 73 255 0 0"),
-        ("[".repeat(256) + "I", false, "2"),
-        ("[".repeat(256), false, "2"),
-        (")x".to_string(), false, "3"),
-        ("(V".to_string(), true, "11"),
-        ("L".to_string(), false, "6"),
-        (String::new(), false, "1"),
-        (String::new(), true, "10"),
-        ("(J[[La/b;)V".to_string(), true, "0 74 0 0 0 76 2 5 3 86 0 0 0"),
+        row("()", true, "1"),
+        row("())", true, "12"),
+        row(&("[".repeat(255) + "I"), false, "0 73 255 0 0"),
+        row(&("[".repeat(256) + "I"), false, "2"),
+        row(&"[".repeat(256), false, "2"),
+        row(")x", false, "3"),
+        row("[)", false, "7"),
+        row("V", false, "0 86 0 0 0"),
+        row("L[;", false, "0 76 0 1 1"),
+        row("(V", true, "11"),
+        row("L", false, "6"),
+        row("", false, "1"),
+        row("", true, "10"),
+        row("(J[[La/b;)V", true, "0 74 0 0 0 76 2 5 3 86 0 0 0"),
+        row(&integers, true, &format!("0{} 86 0 0 0", " 73 0 0 0".repeat(256))),
     ]
 }
 
