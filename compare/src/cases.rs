@@ -12,6 +12,11 @@ use korsepal::{Answer, Leader, Name, Walk};
 const ALL_ROOMS: usize = 32;
 const ALL_OUTPUTS: usize = 128;
 
+/// Of the faults of a method with more bytes of code than this, one in so many is compared in everything, the others by report
+/// and walk.
+const LONG_CODE: usize = 2_000;
+const WHOLE_FAULTS: usize = 8;
+
 /// What goes through a run.
 pub struct Run {
     pub book: Book,
@@ -40,7 +45,11 @@ impl Run {
             Ok(parts) if first => self.whole_case(bytes, &parts),
             Ok(parts) => {
                 let facts = Facts::with(&parts, &mut self.landings);
-                self.fault(bytes, &parts, &facts);
+                if parts.code.len() < LONG_CODE || self.random.once_in(WHOLE_FAULTS) {
+                    self.fault(bytes, &parts, &facts);
+                } else {
+                    self.report_and_walk(bytes, &parts, &facts);
+                }
             }
             Err(wrong) => self.broken_case(bytes, wrong),
         }
@@ -78,6 +87,14 @@ impl Run {
         self.names(bytes, parts, facts);
     }
 
+    /// The report with enough room, and the walk of the case.
+    fn report_and_walk(&mut self, bytes: &[u8], parts: &Parts, facts: &Facts) {
+        let panics = self.checked_message(bytes, parts, facts);
+        self.count_facts(facts, panics);
+        self.report(bytes, facts, facts.highest(), facts.message.as_ref().map_or(8, Vec::len));
+        self.own_walk(bytes, parts, facts);
+    }
+
     /// Counts the case by its answer, and the listed differences that hold of it.
     fn count_facts(&mut self, facts: &Facts, checked_panics: bool) {
         self.book.count(match facts.answer(usize::MAX, usize::MAX) {
@@ -103,10 +120,7 @@ impl Run {
     /// The report with enough room, with some, and on a share of the cases with every room from none to enough. Answers whether
     /// the checked build panics at the message.
     fn reports(&mut self, bytes: &[u8], parts: &Parts, facts: &Facts) -> bool {
-        let listed = facts.falling || facts.wide || facts.long_signature;
-        let checked = facts.checked_message(usize::from(parts.fault));
-        let panics = checked.is_none();
-        self.book.expect_checked(bytes, "message of the checked build", checked, facts.message.clone(), listed);
+        let panics = self.checked_message(bytes, parts, facts);
         let enough = facts.highest();
         let length = facts.message.as_ref().map_or(8, Vec::len);
         let (more, longer) = (self.random.below(3), self.random.below(5));
@@ -125,6 +139,15 @@ impl Run {
         if self.random.once_in(ALL_OUTPUTS) && length < 1_000 {
             (0..=length + 1).for_each(|output| self.report(bytes, facts, enough, output));
         }
+        panics
+    }
+
+    /// The checked build's message is the expected one; answers whether it panics, which must be listed.
+    fn checked_message(&mut self, bytes: &[u8], parts: &Parts, facts: &Facts) -> bool {
+        let listed = facts.falling || facts.wide || facts.long_signature;
+        let checked = facts.checked_message(usize::from(parts.fault));
+        let panics = checked.is_none();
+        self.book.expect_checked(bytes, "message of the checked build", checked, facts.message.clone(), listed);
         panics
     }
 
@@ -167,10 +190,7 @@ impl Run {
 
     /// The walk alone: the case's own, and one from elsewhere.
     fn walks(&mut self, bytes: &[u8], parts: &Parts, facts: &Facts) {
-        let fault = usize::from(parts.fault);
-        if let (Some(leader), Some(walked)) = (facts.leader, &facts.walked) {
-            self.walk(bytes, parts, facts, leader, fault, walked);
-        }
+        self.own_walk(bytes, parts, facts);
         if self.random.once_in(2) {
             let length = parts.code.len();
             let leader = self.random.below(length + 2);
@@ -180,6 +200,12 @@ impl Run {
             };
             let walked = Walked::new(&facts.wrapped, &parts.code, &mut Landings::new(leader), fault);
             self.walk(bytes, parts, facts, leader, fault, &walked);
+        }
+    }
+
+    fn own_walk(&mut self, bytes: &[u8], parts: &Parts, facts: &Facts) {
+        if let (Some(leader), Some(walked)) = (facts.leader, &facts.walked) {
+            self.walk(bytes, parts, facts, leader, usize::from(parts.fault), walked);
         }
     }
 
