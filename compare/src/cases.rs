@@ -1,0 +1,274 @@
+//! One case on both sides: report, leader, walk, names and lengths.
+use crate::book::{Book, Column};
+use crate::differences::{scan, table, within_bounds, Listed, Table};
+use crate::layout::{self, Parts, Wrong};
+use crate::random::Random;
+use crate::room::Lender;
+use crate::rule::{Facts, Landings, Walked};
+use crate::sides::{quietly, Build, Checked, Holding, Wrapped};
+use korsepal::{Answer, Leader, Name, Walk};
+
+/// One case in so many is tried with every stack from none to enough, and one with every output.
+const ALL_ROOMS: usize = 32;
+const ALL_OUTPUTS: usize = 128;
+
+/// Of the faults of a method with more bytes of code than this, one in so many is compared in everything, the others by report
+/// and walk.
+const LONG_CODE: usize = 2_000;
+const WHOLE_FAULTS: usize = 8;
+
+/// What goes through a run.
+pub struct Run {
+    pub book: Book,
+    pub lender: Lender,
+    pub random: Random,
+    /// The landings of the method at hand.
+    landings: Option<Landings>,
+}
+
+impl Run {
+    pub fn new(seed: u64) -> Self {
+        Run { book: Book::new(), lender: Lender::default(), random: Random::new(seed), landings: None }
+    }
+
+    /// Compares the two sides on the bytes of a case.
+    pub fn case(&mut self, bytes: &[u8]) {
+        match layout::read(bytes) {
+            Ok(parts) => self.whole_case(bytes, &parts),
+            Err(wrong) => self.broken_case(bytes, wrong),
+        }
+    }
+
+    /// Compares the two sides on a fault of a method that keeps the layout; the lengths once to a method.
+    pub fn fault_of_method(&mut self, bytes: &[u8], first: bool) {
+        match layout::read(bytes) {
+            Ok(parts) if first => self.whole_case(bytes, &parts),
+            Ok(parts) => {
+                let facts = Facts::with(&parts, &mut self.landings);
+                if parts.code.len() < LONG_CODE || self.random.once_in(WHOLE_FAULTS) {
+                    self.fault(bytes, &parts, &facts);
+                } else {
+                    self.report_and_walk(bytes, &parts, &facts);
+                }
+            }
+            Err(wrong) => self.broken_case(bytes, wrong),
+        }
+    }
+
+    fn broken_case(&mut self, bytes: &[u8], wrong: Wrong) {
+        let (answer, walk, name) = match wrong {
+            Wrong::TooLong => (Answer::TooLong, Walk::TooLong, Name::TooLong),
+            Wrong::At(at) => {
+                let at = at as u64;
+                (Answer::Broken { at }, Walk::Broken { at }, Name::Broken { at })
+            }
+        };
+        self.book.count(if wrong == Wrong::TooLong { Column::TooLong } else { Column::Broken });
+        let (room, output) = (self.random.below(6), self.random.below(40));
+        let (leader, fault) = (self.random.below(6) as u64, self.random.below(9) as u64);
+        self.lender.report(&mut self.book, bytes, room, output, answer);
+        self.lender.walk(&mut self.book, bytes, leader, fault, room, walk);
+        self.lender.name(&mut self.book, bytes, leader, fault, output, name);
+        self.book.count(Column::Reports);
+    }
+
+    fn whole_case(&mut self, bytes: &[u8], parts: &Parts) {
+        self.landings = None;
+        self.fault(bytes, parts, &Facts::of(parts));
+        self.lengths(bytes, &parts.code);
+    }
+
+    /// Everything but the lengths.
+    fn fault(&mut self, bytes: &[u8], parts: &Parts, facts: &Facts) {
+        let message_panics = self.reports(bytes, parts, facts);
+        let leader_panics = self.leaders(bytes, parts, facts);
+        self.count_facts(facts, message_panics || leader_panics);
+        self.walks(bytes, parts, facts);
+        self.names(bytes, parts, facts);
+    }
+
+    /// The report with enough room, and the walk of the case.
+    fn report_and_walk(&mut self, bytes: &[u8], parts: &Parts, facts: &Facts) {
+        let panics = self.checked_message(bytes, parts, facts);
+        self.count_facts(facts, panics);
+        self.report(bytes, facts, facts.highest(), facts.message.as_ref().map_or(8, Vec::len));
+        self.own_walk(bytes, parts, facts);
+    }
+
+    /// Counts the case by its answer, and the listed differences that hold of it.
+    fn count_facts(&mut self, facts: &Facts, checked_panics: bool) {
+        self.book.count(match facts.answer(usize::MAX, usize::MAX) {
+            Answer::Message { kind: 2, .. } => Column::Cause,
+            Answer::Message { .. } => Column::Action,
+            _ => Column::NoMessage,
+        });
+        let listed = [
+            (facts.falling && !facts.wide, Listed::FallingTable),
+            (facts.wide, Listed::WideTable),
+            (facts.long_signature, Listed::SlotCounter),
+        ];
+        for (holds, difference) in listed {
+            if holds {
+                self.book.listed(difference, checked_panics, facts.wrapped_differs);
+            }
+        }
+        if facts.holding == Holding::ByteByByte {
+            self.book.listed(Listed::NotText, false, false);
+        }
+    }
+
+    /// The report with enough room, with some, and on a share of the cases with every room from none to enough. Answers whether
+    /// the checked build panics at the message.
+    fn reports(&mut self, bytes: &[u8], parts: &Parts, facts: &Facts) -> bool {
+        let panics = self.checked_message(bytes, parts, facts);
+        let enough = facts.highest();
+        let length = facts.message.as_ref().map_or(8, Vec::len);
+        let (more, longer) = (self.random.below(3), self.random.below(5));
+        self.report(bytes, facts, enough + more, length + longer);
+        if self.random.once_in(3) {
+            let (room, output) = (self.random.below(enough + 2), self.random.below(length + 2));
+            self.report(bytes, facts, room, output);
+        }
+        if self.random.once_in(ALL_ROOMS) {
+            for room in 0..=enough.min(40) + 1 {
+                for output in [0, 1, length / 2, length.saturating_sub(1), length, length + 1] {
+                    self.report(bytes, facts, room, output);
+                }
+            }
+        }
+        if self.random.once_in(ALL_OUTPUTS) && length < 1_000 {
+            (0..=length + 1).for_each(|output| self.report(bytes, facts, enough, output));
+        }
+        panics
+    }
+
+    /// The checked build's message is the expected one; answers whether it panics, which must be listed.
+    fn checked_message(&mut self, bytes: &[u8], parts: &Parts, facts: &Facts) -> bool {
+        let listed = facts.falling || facts.wide || facts.long_signature;
+        let checked = facts.checked_message(usize::from(parts.fault));
+        let panics = checked.is_none();
+        self.book.expect_checked(bytes, "message of the checked build", checked, facts.message.clone(), listed);
+        panics
+    }
+
+    fn report(&mut self, bytes: &[u8], facts: &Facts, room: usize, output: usize) {
+        self.lender.report(&mut self.book, bytes, room, output, facts.answer(room, output));
+        self.book.count(Column::Reports);
+    }
+
+    /// The leader and the scan count of the case's fault and of another, also past the end. Answers whether the checked build
+    /// panics.
+    fn leaders(&mut self, bytes: &[u8], parts: &Parts, facts: &Facts) -> bool {
+        let length = parts.code.len();
+        let panics = self.leader(bytes, parts, facts, usize::from(parts.fault));
+        let other = match self.random.below(3) {
+            0 => self.random.below(length + 1),
+            1 => length + self.random.below(70_000),
+            _ => usize::MAX >> self.random.below(40),
+        };
+        self.leader(bytes, parts, facts, other) || panics
+    }
+
+    fn leader(&mut self, bytes: &[u8], parts: &Parts, facts: &Facts, fault: usize) -> bool {
+        let greatest = usize::try_from(i64::MAX).expect("a usize of 64 bits");
+        let scan = scan(&parts.code);
+        let leader = Wrapped::leader(&scan.code, fault.min(greatest));
+        let theirs = Leader { leader: leader.map(|leader| leader as u64), scan: facts.scan as u64 };
+        let ours = korsepal::block_leader(&parts.code, fault as u64);
+        self.book.expect(bytes, "leader and scan count", ours, theirs);
+        let checked = quietly(|| Checked::leader(&parts.code, fault));
+        let panics = checked.is_none();
+        if matches!(checked, Some(Some(target)) if target > greatest) {
+            let wrapped = Wrapped::leader(&parts.code, fault);
+            self.book.listed(Listed::HugeFault, false, wrapped != leader);
+            self.book.expect(bytes, "a target below 0 is answered", fault > greatest, true);
+        } else {
+            self.book.expect_checked(bytes, "leader of the checked build", checked, leader, scan.may_panic());
+        }
+        panics
+    }
+
+    /// The walk alone: the case's own, and one from elsewhere.
+    fn walks(&mut self, bytes: &[u8], parts: &Parts, facts: &Facts) {
+        self.own_walk(bytes, parts, facts);
+        if self.random.once_in(2) {
+            let length = parts.code.len();
+            let leader = self.random.below(length + 2);
+            let fault = match self.random.below(8) {
+                0 if length < 1_000 => self.random.below(length + 8),
+                _ => leader + self.random.below(24),
+            };
+            let walked = Walked::new(&facts.wrapped, &parts.code, &mut Landings::new(leader), fault);
+            self.walk(bytes, parts, facts, leader, fault, &walked);
+        }
+    }
+
+    fn own_walk(&mut self, bytes: &[u8], parts: &Parts, facts: &Facts) {
+        if let (Some(leader), Some(walked)) = (facts.leader, &facts.walked) {
+            self.walk(bytes, parts, facts, leader, usize::from(parts.fault), walked);
+        }
+    }
+
+    fn walk(&mut self, bytes: &[u8], parts: &Parts, facts: &Facts, leader: usize, fault: usize, walked: &Walked) {
+        let wrapped = facts.wrapped.walk(&parts.code, leader, fault);
+        let checked = quietly(|| facts.checked.walk(&parts.code, leader, fault));
+        self.book.expect_checked(bytes, "walk of the checked build", checked, wrapped, false);
+        let enough = walked.highest();
+        let rooms = match self.random.below(ALL_ROOMS) {
+            0 => 0..=enough.min(40) + 1,
+            1..=8 => 0..=0,
+            _ => enough..=enough,
+        };
+        for room in rooms {
+            self.lender.walk(&mut self.book, bytes, leader as u64, fault as u64, room, walked.answer(room));
+            self.book.count(Column::Walks);
+        }
+    }
+
+    /// Names of some locals loaded at some indexes, those of the records and their edges before all.
+    fn names(&mut self, bytes: &[u8], parts: &Parts, facts: &Facts) {
+        for _ in 0..3 {
+            let mut local = self.random.below(6) as u16;
+            let mut load = self.random.below(parts.code.len() + 2);
+            if !parts.records.is_empty() && !self.random.once_in(4) {
+                let record = &parts.records[self.random.below(parts.records.len())];
+                local = record.slot;
+                let edges = [0, usize::from(record.length), usize::from(record.length).saturating_sub(1)];
+                load = usize::from(record.start) + edges[self.random.below(3)];
+            } else if self.random.once_in(8) {
+                local = self.random.number();
+            }
+            self.name(bytes, facts, local, load);
+        }
+    }
+
+    fn name(&mut self, bytes: &[u8], facts: &Facts, local: u16, load: usize) {
+        let name = facts.holding.release(facts.wrapped.name(local, load));
+        let checked = quietly(|| facts.checked.name(local, load)).map(|name| facts.holding.release(name));
+        self.book.expect_checked(bytes, "name by the checked build", checked, name.clone(), facts.long_signature);
+        let short = self.random.once_in(4);
+        let output = if short { self.random.below(name.len() + 1) } else { name.len() + self.random.below(3) };
+        let expected =
+            if output < name.len() { Name::NoOutput { needed: name.len() as u64 } } else { Name::Named(&name) };
+        self.lender.name(&mut self.book, bytes, u64::from(local), load as u64, output, expected);
+        self.book.count(Column::Names);
+    }
+
+    /// The length at every index of the code, and past its end.
+    fn lengths(&mut self, bytes: &[u8], code: &[u8]) {
+        for pc in 0..code.len() + 1 {
+            let table = table(code, pc);
+            let wrapped = match table {
+                Table::Plain | Table::Falling => Wrapped::length(code, pc),
+                _ => Wrapped::length(&within_bounds(code, pc, table), pc),
+            };
+            let ours = korsepal::instruction_length(code, pc as u64).map(|length| length as usize);
+            if ours != wrapped {
+                self.book.expect(bytes, &format!("length at {pc}"), ours, wrapped);
+            }
+            let checked = quietly(|| Checked::length(code, pc));
+            self.book.expect_checked(bytes, "length by the checked build", checked, wrapped, table != Table::Plain);
+        }
+        self.book.add(Column::Lengths, code.len() as u64 + 1);
+    }
+}

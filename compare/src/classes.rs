@@ -1,0 +1,108 @@
+//! Real class files: every dereferencing instruction of every method becomes a case.
+use crate::cases::Run;
+use crate::classfile::{self, ClassFile, Members, Method};
+use crate::sides::{Build, Wrapped};
+use std::fs;
+use std::path::{Path, PathBuf};
+
+/// The class files below a folder, in the order of their paths; or the one file named.
+fn class_files(folder: &Path) -> std::io::Result<Vec<PathBuf>> {
+    let mut files = Vec::new();
+    let mut left = vec![folder.to_path_buf()];
+    while let Some(path) = left.pop() {
+        if path.is_dir() {
+            for entry in fs::read_dir(&path)? {
+                left.push(entry?.path());
+            }
+        } else if path.extension().is_some_and(|extension| extension == "class") {
+            files.push(path);
+        }
+    }
+    files.sort();
+    Ok(files)
+}
+
+/// Counts of what was read.
+#[derive(Default)]
+struct Seen {
+    classes: u64,
+    unreadable: u64,
+    methods: u64,
+    instructions: u64,
+    unmeasured: u64,
+}
+
+/// Compares the two sides on every class file below a folder.
+pub fn compare(run: &mut Run, folder: &Path) -> std::io::Result<()> {
+    let files = class_files(folder)?;
+    let mut seen = Seen::default();
+    for (done, file) in files.iter().enumerate() {
+        match classfile::read(&fs::read(file)?) {
+            Ok(class) => {
+                seen.classes += 1;
+                class.methods.iter().for_each(|method| compare_method(run, &mut seen, &class, method));
+            }
+            Err(_) => seen.unreadable += 1,
+        }
+        if done % 50 == 0 {
+            run.book.progress(done as u64, files.len() as u64);
+        }
+    }
+    eprintln!();
+    println!(
+        "{} classes ({} more could not be read), {} methods with code, {} instructions, {} methods not measured to their end",
+        seen.classes, seen.unreadable, seen.methods, seen.instructions, seen.unmeasured
+    );
+    println!();
+    Ok(())
+}
+
+fn compare_method(run: &mut Run, seen: &mut Seen, class: &ClassFile, method: &Method) {
+    seen.methods += 1;
+    let starts = starts(&method.code);
+    seen.instructions += starts.len() as u64;
+    if end(&method.code, &starts) != Some(method.code.len()) {
+        seen.unmeasured += 1;
+    }
+    let faults = classfile::dereferences(&method.code);
+    for (place, &fault) in faults.iter().enumerate() {
+        // The first fault has the whole pool's members, the others those that the code cites.
+        let members = if place == 0 { Members::Whole } else { Members::Cited };
+        if let Some(bytes) = classfile::case_at(class, method, fault, members).bytes() {
+            run.book.case("class files");
+            run.fault_of_method(&bytes, place == 0);
+        }
+    }
+}
+
+/// Where the instructions of a code start, by the Rust's lengths.
+fn starts(code: &[u8]) -> Vec<usize> {
+    let mut starts = Vec::new();
+    let mut at = 0;
+    while let Some(length) = Wrapped::length(code, at) {
+        starts.push(at);
+        at += length;
+    }
+    starts
+}
+
+/// Where the last instruction ends.
+fn end(code: &[u8], starts: &[usize]) -> Option<usize> {
+    let last = *starts.last()?;
+    Some(last + Wrapped::length(code, last)?)
+}
+
+/// Prints a line for each method of a class file: where its instructions start, by the library's lengths.
+pub fn print_starts(file: &Path) -> std::io::Result<()> {
+    let Ok(class) = classfile::read(&fs::read(file)?) else { return Ok(()) };
+    for method in &class.methods {
+        let mut line = String::new();
+        let mut at = 0;
+        while let Some(length) = korsepal::instruction_length(&method.code, at) {
+            line += &format!(" {at}");
+            at += length;
+        }
+        println!("code{line}");
+    }
+    Ok(())
+}

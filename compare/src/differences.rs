@@ -1,0 +1,148 @@
+//! The listed differences between document 01 and the Rust: when each holds of an input, and what stands in for it, so that
+//! the rest of the input is compared all the same.
+use crate::sides::{Build, Wrapped};
+use std::borrow::Cow;
+
+/// The listed differences, in the table's order.
+#[derive(Clone, Copy, PartialEq)]
+pub enum Listed {
+    /// A `tableswitch` with high < low: the checked build panics.
+    FallingTable,
+    /// A `tableswitch` whose high - low leaves 32 bits: the checked build panics, the wrapped one counts other entries.
+    WideTable,
+    /// The parameters' slots pass 65,535: the checked build panics, the wrapped one starts again at 0.
+    SlotCounter,
+    /// A text that is not UTF-8: the Rust can't hold it.
+    NotText,
+    /// The leader alone with a fault at or above 2^63: the Rust takes a target below 0 for a huge one.
+    HugeFault,
+}
+
+/// Their numbers and names.
+pub const LISTED: [(&str, &str); 5] = [
+    ("D1", "tableswitch with high < low"),
+    ("D2", "tableswitch with high - low outside 32 bits"),
+    ("D3", "parameters' slots above 65,535"),
+    ("D4", "texts that are not UTF-8, held byte by byte"),
+    ("D5", "leader alone, fault at or above 2^63, target below 0"),
+];
+
+const TABLESWITCH: u8 = 0xaa;
+
+/// What a `tableswitch` says of its entries.
+#[derive(Clone, Copy, PartialEq)]
+pub enum Table {
+    Plain,
+    Falling,
+    /// high - low is above 2^31 - 1: more entries than any code holds.
+    TooHigh,
+    /// high - low is below -2^31: no entries.
+    TooLow,
+}
+
+/// Where the low and high of a `tableswitch` at an index stand.
+fn bounds_at(pc: usize) -> usize {
+    (pc + 1).next_multiple_of(4) + 4
+}
+
+fn signed_at(code: &[u8], at: usize) -> Option<i64> {
+    let bytes = code.get(at..at + 4)?;
+    Some(i64::from(i32::from_be_bytes(bytes.try_into().expect("four bytes"))))
+}
+
+/// The table of the instruction at an index; plain where it is no `tableswitch` or is cut.
+pub fn table(code: &[u8], pc: usize) -> Table {
+    if code.get(pc) != Some(&TABLESWITCH) {
+        return Table::Plain;
+    }
+    let at = bounds_at(pc);
+    let (Some(low), Some(high)) = (signed_at(code, at), signed_at(code, at + 4)) else {
+        return Table::Plain;
+    };
+    match high - low {
+        span if span > i64::from(i32::MAX) => Table::TooHigh,
+        span if span < i64::from(i32::MIN) => Table::TooLow,
+        span if span < 0 => Table::Falling,
+        _ => Table::Plain,
+    }
+}
+
+/// A code in which the table at an index has as many entries by a difference that stays within 32 bits.
+pub fn within_bounds(code: &[u8], pc: usize, table: Table) -> Vec<u8> {
+    let mut code = code.to_vec();
+    let bounds: [i32; 2] = if table == Table::TooHigh { [0, i32::MAX] } else { [1, 0] };
+    let at = bounds_at(pc);
+    code[at..at + 4].copy_from_slice(&bounds[0].to_be_bytes());
+    code[at + 4..at + 8].copy_from_slice(&bounds[1].to_be_bytes());
+    code
+}
+
+/// The chain of the Rust's lengths from 0.
+pub struct Scan<'a> {
+    /// The instructions measured.
+    pub count: usize,
+    /// A table met on the way has high < low.
+    pub falling: bool,
+    /// A table met on the way leaves 32 bits.
+    pub wide: bool,
+    /// The code, its tables brought within 32 bits.
+    pub code: Cow<'a, [u8]>,
+}
+
+impl Scan<'_> {
+    /// Whether a panic of the checked build is listed.
+    pub fn may_panic(&self) -> bool {
+        self.falling || self.wide
+    }
+}
+
+pub fn scan(code: &[u8]) -> Scan<'_> {
+    let mut scan = Scan { count: 0, falling: false, wide: false, code: Cow::Borrowed(code) };
+    let mut pc = 0;
+    while pc < code.len() {
+        match table(code, pc) {
+            Table::Plain => {}
+            Table::Falling => scan.falling = true,
+            outside => {
+                scan.wide = true;
+                scan.code = Cow::Owned(within_bounds(&scan.code, pc, outside));
+            }
+        }
+        let Some(length) = Wrapped::length(&scan.code, pc) else { break };
+        scan.count += 1;
+        pc += length;
+    }
+    scan
+}
+
+/// The place behind a type, and its slots.
+fn field_type(text: &[u8], at: usize) -> Option<(usize, usize)> {
+    let base = at + text[at..].iter().take_while(|&&byte| byte == b'[').count();
+    let next = match text.get(base)? {
+        b'B' | b'C' | b'D' | b'F' | b'I' | b'J' | b'S' | b'Z' => base + 1,
+        b'L' => base + 1 + text[base..].iter().position(|&byte| byte == b';')?,
+        _ => return None,
+    };
+    let wide = base == at && matches!(text[base], b'J' | b'D');
+    Some((next, if wide { 2 } else { 1 }))
+}
+
+/// Where the slots of a signature's parameters pass 65,535, the signature up to the last that starts at or below it: no local
+/// of 16 bits is named by a later one.
+pub fn cut_signature(signature: &[u8], is_static: bool) -> Option<&[u8]> {
+    if signature.len() < 32_767 {
+        return None;
+    }
+    let colon = signature.iter().position(|&byte| byte == b':')?;
+    let mut at = colon + 2;
+    let mut slot = usize::from(!is_static);
+    while at < signature.len() && signature[at] != b')' {
+        let (next, slots) = field_type(signature, at)?;
+        at = next;
+        slot += slots;
+        if slot > 65_535 {
+            return Some(&signature[..at]);
+        }
+    }
+    None
+}

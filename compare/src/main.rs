@@ -1,0 +1,135 @@
+//! Compares the library with the Rust that it ports: the same inputs to both, every answer.
+mod book;
+mod cases;
+mod classes;
+mod classfile;
+mod descriptors;
+mod differences;
+mod layout;
+mod make;
+mod random;
+mod room;
+mod rows;
+mod rule;
+mod sample;
+mod sides;
+
+use cases::Run;
+use random::Random;
+use std::path::Path;
+
+/// How many inputs go by between two progress lines.
+const STEP: u64 = 2_000;
+
+/// The whole comparison: so many cases, so many made descriptors, and every short descriptor as the count allows.
+fn compare(seed: u64, count: u64) -> Run {
+    let mut run = Run::new(seed);
+    rows::compare(&mut run);
+    cases(&mut run, seed, count);
+    rows::compare_descriptors(&mut run);
+    made_descriptors(&mut run, seed, count);
+    short_descriptors(&mut run, count);
+    run
+}
+
+/// Cases of every kind, mixed, so that each is met early.
+fn cases(run: &mut Run, seed: u64, count: u64) {
+    let mut random = Random::new(seed ^ 0x6361_7365);
+    make::KINDS.iter().for_each(|(name, _, _)| run.book.announce(name));
+    let mix: Vec<usize> = (0..make::KINDS.len()).flat_map(|kind| vec![kind; make::KINDS[kind].1]).collect();
+    for done in 0..count {
+        let (name, _, make) = make::KINDS[mix[random.below(mix.len())]];
+        run.book.case(name);
+        run.case(&make(&mut random));
+        if done % STEP == 0 {
+            run.book.progress(done, count);
+        }
+    }
+}
+
+fn made_descriptors(run: &mut Run, seed: u64, count: u64) {
+    let mut random = Random::new(seed ^ 0x6465_7363);
+    descriptors::KINDS.iter().for_each(|name| run.book.announce(name));
+    for done in 0..count {
+        let (name, text) = descriptors::made(&mut random);
+        run.book.descriptor(name);
+        run.descriptor(&text);
+        if done % STEP == 0 {
+            run.book.progress(done, count);
+        }
+    }
+}
+
+/// Every text over the alphabet whose length has no more texts than the count.
+fn short_descriptors(run: &mut Run, count: u64) {
+    let mut text = Vec::new();
+    for letters in 0..=7u32 {
+        let texts = (descriptors::ALPHABET.len() as u64).pow(letters);
+        if texts > count {
+            break;
+        }
+        for number in 0..texts {
+            descriptors::short(number as usize, letters as usize, &mut text);
+            run.book.descriptor("every short descriptor");
+            run.descriptor(&text);
+            if number % (10 * STEP) == 0 {
+                run.book.progress(number, texts);
+            }
+        }
+    }
+}
+
+/// Ends with a word on what went wrong with a file.
+fn or_end<T>(work: std::io::Result<T>, path: &str) -> T {
+    work.unwrap_or_else(|error| {
+        eprintln!("compare: {path}: {error}");
+        std::process::exit(2);
+    })
+}
+
+/// Prints the tables; a disagreement is a failure.
+fn end(run: &Run) {
+    run.book.print();
+    if !run.book.agreed() {
+        std::process::exit(1);
+    }
+}
+
+/// Writes the sample, and says whether the library answers as the Rust does.
+fn write_sample(path: &str, seed: u64) {
+    let bytes = sample::sample(seed);
+    or_end(std::fs::write(path, &bytes), path);
+    let ([cases, lists, types, methods], others) = sample::check(&bytes);
+    println!("{cases} cases, {lists} lenient, {types} strict types, {methods} strict methods in {} bytes", bytes.len());
+    println!("the library answers {others} of them otherwise");
+    if others > 0 {
+        std::process::exit(1);
+    }
+}
+
+fn main() {
+    sides::silence_expected_panics();
+    let arguments: Vec<String> = std::env::args().skip(1).collect();
+    let number = |place: usize, usual: u64| match arguments.get(place) {
+        None => usual,
+        Some(text) => text.parse().unwrap_or_else(|_| usage()),
+    };
+    let path = || arguments.get(1).unwrap_or_else(|| usage());
+    match arguments.first().map(String::as_str) {
+        Some("run") => end(&compare(number(1, 1), number(2, 100_000))),
+        Some("listed") => rows::print_listed(),
+        Some("classes") => {
+            let mut run = Run::new(1);
+            or_end(classes::compare(&mut run, Path::new(path())), path());
+            end(&run);
+        }
+        Some("starts") => arguments[1..].iter().for_each(|file| or_end(classes::print_starts(Path::new(file)), file)),
+        Some("sample") => write_sample(path(), number(2, sample::SEED)),
+        _ => usage(),
+    }
+}
+
+fn usage() -> ! {
+    eprintln!("compare: run [SEED] [COUNT] | listed | classes FOLDER | starts FILE.. | sample FILE [SEED]");
+    std::process::exit(2);
+}

@@ -1,0 +1,654 @@
+//! Inputs: cases with structure, damaged ones, cases at the edges, and random bytes.
+use crate::descriptors::{any_method, any_type};
+use crate::layout::{lay_out, Member, Parts, Record};
+use crate::random::Random;
+use crate::sides::{Build, Holding, Wrapped};
+
+/// The kinds of cases, and how many of twenty are of each.
+pub const KINDS: [(&str, usize, fn(&mut Random) -> Vec<u8>); 5] = [
+    ("structured", 9, structured),
+    ("damaged code", 3, damaged_code),
+    ("damaged layout", 3, damaged_layout),
+    ("boundaries", 3, boundary),
+    ("random bytes", 2, random_bytes),
+];
+
+const CLASSES: [&[u8]; 12] = [
+    b"java/lang/String",
+    b"java/lang/Object",
+    b"java/lang/StringBuilder",
+    b"java/lang/Strin",
+    b"a/b/C",
+    b"D",
+    b"",
+    b"[J",
+    b"[La/b;",
+    b"java.lang.String",
+    b"/",
+    "\u{e9}t\u{e9}/\u{65e5}\u{672c}".as_bytes(),
+];
+
+const NAMES: [&[u8]; 10] = [
+    b"length",
+    b"next",
+    b"<init>",
+    b"<clinit>",
+    b"x",
+    b"",
+    b"a b\n",
+    b"get/it",
+    b"<init",
+    "\u{1f600}\u{fc}".as_bytes(),
+];
+
+/// Operand bytes, slots taken and slots put of an instruction of the walk that cites no member.
+fn effect(opcode: u8) -> Option<(usize, usize, usize)> {
+    Some(match opcode {
+        0 => (0, 0, 0),
+        1..=8 | 11..=13 | 26..=29 | 34..=37 | 42..=45 => (0, 0, 1),
+        9 | 10 | 14 | 15 | 30..=33 | 38..=41 => (0, 0, 2),
+        16 | 18 | 21 | 23 | 25 => (1, 0, 1),
+        22 | 24 => (1, 0, 2),
+        17 | 19 | 187 => (2, 0, 1),
+        20 => (2, 0, 2),
+        46 | 48 | 50..=53 => (0, 2, 1),
+        47 | 49 => (0, 2, 2),
+        54 | 56 | 58 => (1, 1, 0),
+        55 | 57 => (1, 2, 0),
+        59..=62 | 67..=70 | 75..=78 | 87 => (0, 1, 0),
+        63..=66 | 71..=74 | 88 => (0, 2, 0),
+        89 => (0, 1, 2),
+        92 => (0, 2, 4),
+        95 => (0, 2, 2),
+        132 | 192 => (2, 0, 0),
+        188 => (1, 1, 1),
+        189 | 193 => (2, 1, 1),
+        190 => (0, 1, 1),
+        _ => return None,
+    })
+}
+
+/// Operand bytes of any instruction but the switches and `wide`.
+fn operands(opcode: u8) -> usize {
+    match opcode {
+        16 | 18 | 21..=25 | 54..=58 | 169 | 188 => 1,
+        17 | 19 | 20 | 132 | 153..=168 | 178..=184 | 187 | 189 | 192 | 193 | 198 | 199 => 2,
+        197 => 3,
+        185 | 186 | 200 | 201 => 4,
+        _ => 0,
+    }
+}
+
+/// A code in the making.
+struct Maker<'r> {
+    random: &'r mut Random,
+    members: Vec<Member>,
+    code: Vec<u8>,
+    /// Where instructions start.
+    starts: Vec<usize>,
+    /// Offsets to fill in: the place, the instruction's index, and the bytes (2 or 4).
+    branches: Vec<(usize, usize, usize)>,
+    /// The height of the walk, as far as it is known.
+    height: usize,
+}
+
+impl Maker<'_> {
+    fn start(&mut self, opcode: u8) -> usize {
+        self.starts.push(self.code.len());
+        self.code.push(opcode);
+        self.code.len() - 1
+    }
+
+    fn operands(&mut self, count: usize) {
+        for _ in 0..count {
+            let byte = if self.random.once_in(3) { self.random.byte() } else { self.random.below(6) as u8 };
+            self.code.push(byte);
+        }
+    }
+
+    /// An instruction of the walk, for the most part one that finds what it takes.
+    fn walked(&mut self) {
+        if self.random.once_in(6) && !self.members.is_empty() {
+            return self.cite();
+        }
+        loop {
+            let opcode = match self.random.below(3) {
+                0 => [25, 42, 43, 44, 45, 89, 92, 95, 192][self.random.below(9)],
+                _ => self.random.below(194) as u8,
+            };
+            let Some((operands, taken, put)) = effect(opcode) else { continue };
+            if taken > self.height && !self.random.once_in(40) {
+                continue;
+            }
+            self.start(opcode);
+            self.operands(operands);
+            self.height = self.height.saturating_sub(taken) + put;
+            return;
+        }
+    }
+
+    /// The index of a member, mostly one of the table and of the kind, sometimes of the other kind.
+    fn cited(&mut self, is_method: bool) -> (u16, Option<Member>) {
+        let kind = is_method != self.random.once_in(16);
+        let of_kind: Vec<&Member> = self.members.iter().filter(|member| member.is_method == kind).collect();
+        if of_kind.is_empty() || self.random.once_in(24) {
+            return (self.random.number(), None);
+        }
+        let member = of_kind[self.random.below(of_kind.len())].clone();
+        (member.index, Some(member))
+    }
+
+    /// The slots that a method takes, and those that it gives; those of a field are given.
+    fn slots(member: Option<&Member>) -> (usize, usize) {
+        let Some(member) = member else { return (0, 0) };
+        if !member.is_method {
+            return (0, Wrapped::field_slots(&member.descriptor));
+        }
+        let text = Holding::of(std::iter::once(&member.descriptor[..])).hold(&member.descriptor);
+        let taken = Wrapped::parameters(&text).map_or(0, |(_, slots)| slots);
+        (taken, Wrapped::return_slots(&text).unwrap_or(0))
+    }
+
+    /// An instruction of the walk that cites a member, behind what it takes.
+    fn cite(&mut self) {
+        let opcode = [178, 180, 182, 183, 184, 185][self.random.below(6)];
+        let (index, member) = self.cited(opcode >= 182);
+        let (arguments, given) = Self::slots(member.as_ref());
+        let taken = arguments + usize::from(opcode != 178 && opcode != 184);
+        self.fill(taken);
+        self.start(opcode);
+        self.code.extend(index.to_be_bytes());
+        if opcode == 185 {
+            self.operands(2);
+        }
+        self.height = self.height.saturating_sub(taken) + given;
+    }
+
+    /// Pushes until the list has so many slots.
+    fn fill(&mut self, slots: usize) {
+        while self.height < slots.min(300) {
+            self.push();
+        }
+    }
+
+    fn push(&mut self) {
+        let opcode = [1, 5, 9, 16, 20, 25, 26, 42, 43][self.random.below(9)];
+        let (operands, _, put) = effect(opcode).expect("it is walked");
+        self.start(opcode);
+        self.operands(operands);
+        self.height += put;
+    }
+
+    /// A load, sometimes cast or carried along.
+    fn load(&mut self) {
+        let opcode = [25, 42, 43, 44, 45][self.random.below(5)];
+        self.start(opcode);
+        if opcode == 25 {
+            self.operands(1);
+        }
+        self.height += 1;
+        if self.random.once_in(5) {
+            self.start(192);
+            self.operands(2);
+        }
+    }
+
+    /// Slots above the load: as many as the depth asks, sometimes another number.
+    fn above(&mut self, depth: usize) {
+        let wanted = if self.random.once_in(12) { depth + self.random.below(3) } else { depth };
+        for _ in 0..wanted.min(300) {
+            let opcode = [1, 4, 42, 43, 26, 89][self.random.below(6)];
+            self.start(opcode);
+            self.height += 1;
+        }
+    }
+
+    /// A dereferencing instruction behind its operands, and its index.
+    fn dereference(&mut self) -> usize {
+        let opcode = match self.random.below(4) {
+            0 => [46, 47, 48, 49, 50, 51, 52, 53, 79, 80, 81, 82, 83, 84, 85, 86][self.random.below(16)],
+            1 => [180, 181][self.random.below(2)],
+            2 => [182, 183, 185][self.random.below(3)],
+            _ => [190, 191, 194, 195][self.random.below(4)],
+        };
+        let cites = (180..=185).contains(&opcode);
+        let (index, member) = if cites { self.cited(opcode >= 182) } else { (0, None) };
+        let (taken, given) = Self::slots(member.as_ref());
+        let depth = match opcode {
+            46..=53 => 1,
+            80 | 82 => 3,
+            79..=86 => 2,
+            181 => given,
+            _ => taken,
+        };
+        self.load();
+        self.above(depth);
+        let at = self.start(opcode);
+        if cites {
+            self.code.extend(index.to_be_bytes());
+        }
+        if opcode == 185 {
+            self.operands(2);
+        }
+        at
+    }
+
+    /// Any instruction with its operands.
+    fn any(&mut self) {
+        let opcode = self.random.byte();
+        match opcode {
+            170 | 171 => self.switch(opcode == 170),
+            196 => {
+                self.start(196);
+                let widened = if self.random.once_in(3) { 132 } else { self.random.byte() };
+                self.code.push(widened);
+                self.operands(if widened == 132 { 4 } else { 2 });
+            }
+            153..=168 | 198..=201 => self.branch(opcode),
+            _ => {
+                self.start(opcode);
+                self.operands(operands(opcode));
+            }
+        }
+        self.height = 0;
+    }
+
+    fn branch(&mut self, opcode: u8) {
+        let at = self.start(opcode);
+        let bytes = operands(opcode);
+        self.branches.push((at + 1, at, bytes));
+        self.code.resize(at + 1 + bytes, 0);
+    }
+
+    /// A switch with a few entries, whose targets are filled in later.
+    fn switch(&mut self, is_table: bool) {
+        let at = self.start(if is_table { 170 } else { 171 });
+        while self.code.len() % 4 != 0 {
+            let padding = if self.random.once_in(4) { self.random.byte() } else { 0 };
+            self.code.push(padding);
+        }
+        self.target(at);
+        let entries = self.random.below(4);
+        if is_table {
+            let low = (self.random.below(7) as i32) - 3;
+            self.code.extend(low.to_be_bytes());
+            self.code.extend((low + entries as i32 - 1).to_be_bytes());
+        } else {
+            self.code.extend((entries as i32).to_be_bytes());
+        }
+        for entry in 0..entries {
+            if !is_table {
+                self.code.extend((entry as i32 * 3).to_be_bytes());
+            }
+            self.target(at);
+        }
+    }
+
+    /// A place for an offset of 32 bits.
+    fn target(&mut self, at: usize) {
+        self.branches.push((self.code.len(), at, 4));
+        self.code.extend([0; 4]);
+    }
+
+    /// Instructions of every sort, ahead of the block or behind it.
+    fn around(&mut self, count: usize) {
+        for _ in 0..count {
+            match self.random.below(4) {
+                0 => {
+                    let opcode = [153, 165, 167, 168, 198, 199, 200, 201][self.random.below(8)];
+                    self.branch(opcode);
+                }
+                1 if self.random.once_in(3) => self.switch(self.code.len() % 2 == 0),
+                1 => self.walked(),
+                _ => self.any(),
+            }
+        }
+    }
+
+    /// Fills in the offsets: to starts near the fault, to any place, before the code and behind it.
+    fn resolve(&mut self, fault: usize) {
+        let near: Vec<usize> = self.starts.iter().copied().filter(|start| start.abs_diff(fault) < 12).collect();
+        for (place, at, bytes) in std::mem::take(&mut self.branches) {
+            let length = self.code.len();
+            let target = match self.random.below(16) {
+                0 => self.random.below(length + 4) as i64,
+                1 => fault as i64 - self.random.below(6) as i64,
+                2 => -(self.random.below(9) as i64),
+                3 => length as i64 + self.random.below(70_000) as i64,
+                4..=7 if !near.is_empty() => near[self.random.below(near.len())] as i64,
+                _ => self.starts[self.random.below(self.starts.len())] as i64,
+            };
+            let offset = target - at as i64;
+            let written = (offset as i32).to_be_bytes();
+            self.code[place..place + bytes].copy_from_slice(&written[4 - bytes..]);
+        }
+    }
+}
+
+fn text(random: &mut Random, from: &[&'static [u8]]) -> Vec<u8> {
+    random.pick(from).to_vec()
+}
+
+/// A few members, their indexes rising.
+fn members(random: &mut Random) -> Vec<Member> {
+    let mut index = 0;
+    let mut members = Vec::new();
+    for _ in 0..random.below(7) {
+        let step = if random.once_in(9) { random.between(1, 9_000) } else { random.between(1, 3) };
+        index += step as u16;
+        let is_method = random.once_in(2);
+        members.push(Member {
+            index,
+            is_method,
+            class: text(random, &CLASSES),
+            name: text(random, &NAMES),
+            // Some have a descriptor of the other kind.
+            descriptor: if is_method != random.once_in(8) { any_method(random) } else { any_type(random) },
+        });
+    }
+    members
+}
+
+fn signature(random: &mut Random) -> Vec<u8> {
+    let colon: &[u8] = random.pick(&[b":", b":", b":", b":", b":", b":", b"::", b""]);
+    [&text(random, &NAMES), colon, &any_method(random)[..]].concat()
+}
+
+/// Records whose windows lie about the code; some name the same slot.
+fn records(random: &mut Random, length: usize) -> Vec<Record> {
+    let count = random.below(5);
+    (0..count)
+        .map(|_| Record {
+            start: random.below(length + 2) as u16,
+            length: if random.once_in(5) { random.number() } else { random.below(length + 2) as u16 },
+            slot: if random.once_in(8) { random.number() } else { random.below(5) as u16 },
+            name: text(random, &NAMES),
+        })
+        .collect()
+}
+
+fn flags(random: &mut Random) -> u16 {
+    if random.once_in(4) {
+        random.number()
+    } else {
+        [0, 8, 9, 1][random.below(4)]
+    }
+}
+
+/// The parts of a case with structure: code ahead, a block that ends in a dereference, code behind.
+fn parts(random: &mut Random) -> Parts {
+    let members = members(random);
+    let (ahead, walked, behind) = match random.below(4) {
+        0 => (0, random.below(4), 1),
+        1 => (0, random.below(12), random.below(8)),
+        _ => (random.below(6), random.below(8), random.below(6)),
+    };
+    let mut maker = Maker { random, members, code: Vec::new(), starts: Vec::new(), branches: Vec::new(), height: 0 };
+    maker.around(ahead);
+    if ahead > 0 && !maker.random.once_in(4) {
+        let opcode = [167, 153, 198, 200][maker.random.below(4)];
+        maker.branch(opcode);
+        maker.height = 0;
+    }
+    for _ in 0..walked {
+        maker.walked();
+    }
+    let mut fault = maker.dereference();
+    maker.around(behind);
+    maker.resolve(fault);
+    let Maker { members, code, starts, .. } = maker;
+    match random.below(24) {
+        0 => fault = starts[random.below(starts.len())],
+        1 => fault = random.below(code.len() + 2),
+        _ => {}
+    }
+    Parts {
+        flags: flags(random),
+        fault: fault as u16,
+        signature: signature(random),
+        members,
+        records: records(random, code.len()),
+        code,
+    }
+}
+
+fn structured(random: &mut Random) -> Vec<u8> {
+    lay_out(&parts(random))
+}
+
+/// Changes, inserts, removes or cuts off a few bytes.
+pub fn damage(random: &mut Random, bytes: &mut Vec<u8>) {
+    for _ in 0..random.between(1, 3) {
+        let at = random.below(bytes.len() + 1);
+        match random.below(8) {
+            0 => bytes.insert(at, random.byte()),
+            1 if at < bytes.len() => {
+                bytes.remove(at);
+            }
+            2 if random.once_in(3) => bytes.truncate(at),
+            3 if at < bytes.len() => bytes[at] ^= 128,
+            4 if at < bytes.len() => bytes[at] = bytes[at].wrapping_add(1),
+            5 if at < bytes.len() => bytes[at] = bytes[at].wrapping_sub(1),
+            _ if at < bytes.len() => bytes[at] = random.byte(),
+            _ => bytes.push(random.byte()),
+        }
+    }
+}
+
+fn damaged_code(random: &mut Random) -> Vec<u8> {
+    let mut parts = parts(random);
+    damage(random, &mut parts.code);
+    lay_out(&parts)
+}
+
+fn damaged_layout(random: &mut Random) -> Vec<u8> {
+    let mut bytes = structured(random);
+    damage(random, &mut bytes);
+    bytes
+}
+
+/// Random bytes as a case, and as the code of one.
+fn random_bytes(random: &mut Random) -> Vec<u8> {
+    if random.once_in(2) {
+        let count = random.below(40);
+        return random.bytes(count);
+    }
+    let count = random.below(60);
+    let code = random.bytes(count);
+    lay_out(&Parts { fault: random.below(count + 2) as u16, code, ..parts(random) })
+}
+
+/// A case at some edge.
+fn boundary(random: &mut Random) -> Vec<u8> {
+    if random.once_in(500) {
+        return lay_out(&huge(random));
+    }
+    if random.once_in(3_000) {
+        return longest(random);
+    }
+    let mut case = parts(random);
+    match random.below(14) {
+        0 => case.code.clear(),
+        1 => case.fault = (case.code.len() + random.below(3)) as u16 - random.below(2).min(case.code.len()) as u16,
+        2 => many_dimensions(random, &mut case),
+        3 => not_utf8(random, &mut case),
+        4 => case.signature = odd_signature(random),
+        5 => windows(random, &mut case),
+        6 => case.fault = random.number(),
+        7 => case.code = odd_switch(random, &mut case.fault),
+        8 => case.code = deep(random, &mut case.fault),
+        9 => case.code.truncate(usize::from(case.fault) + random.below(4)),
+        10 => case.code = into_an_instruction(random, &mut case.fault),
+        11 => case.members.iter_mut().for_each(|member| member.name = b"<init>".to_vec()),
+        12 => long_names(random, &mut case),
+        _ => case.records.iter_mut().for_each(|record| record.name.clear()),
+    }
+    lay_out(&case)
+}
+
+/// 254 to 257 dimensions in every descriptor.
+fn many_dimensions(random: &mut Random, case: &mut Parts) {
+    let array =
+        [&b"[".repeat(random.between(254, 257))[..], random.pick(&[b"I" as &[u8], b"La/B;", b"J", b"V"])].concat();
+    for member in &mut case.members {
+        member.descriptor = if member.is_method { [b"(I", &array[..], b")V"].concat() } else { array.clone() };
+    }
+    case.signature = [b"m:(", &array[..], b"J)V"].concat();
+}
+
+/// Bytes that are no UTF-8, in one of the texts.
+fn not_utf8(random: &mut Random, case: &mut Parts) {
+    let odd = |random: &mut Random, text: &mut Vec<u8>| {
+        let at = random.below(text.len() + 1);
+        text.insert(at, [0xff, 0x80, 0xc3, 0xed][random.below(4)]);
+    };
+    odd(random, &mut case.signature);
+    for member in &mut case.members {
+        match random.below(4) {
+            0 => odd(random, &mut member.class),
+            1 => odd(random, &mut member.name),
+            2 => odd(random, &mut member.descriptor),
+            _ => {}
+        }
+    }
+    case.records.iter_mut().for_each(|record| odd(random, &mut record.name));
+}
+
+/// One long name, of a record and of a member.
+fn long_names(random: &mut Random, case: &mut Parts) {
+    let name = vec![b'n'; random.between(120, 260)];
+    if !case.records.is_empty() {
+        let place = random.below(case.records.len());
+        case.records[place] = Record { start: 0, length: 65_535, slot: random.below(4) as u16, name: name.clone() };
+    }
+    if !case.members.is_empty() {
+        let place = random.below(case.members.len());
+        case.members[place].name = name;
+    }
+}
+
+/// Signatures about their colons.
+fn odd_signature(random: &mut Random) -> Vec<u8> {
+    let odd: [&[u8]; 14] = [
+        b"",
+        b":",
+        b"::",
+        b"m:",
+        b"m:(",
+        b":)I",
+        b"m:JI",
+        b"m:(I:J)V",
+        b"m:(IV",
+        b"m:(V)V",
+        b"m:(La;",
+        b"m:(La",
+        b"m:[[I",
+        b":(L;J)V",
+    ];
+    text(random, &odd)
+}
+
+/// Windows of length 0, and windows that begin or end at the load.
+fn windows(random: &mut Random, case: &mut Parts) {
+    let fault = usize::from(case.fault);
+    for record in &mut case.records {
+        let start = fault.saturating_sub(random.below(5));
+        record.start = start as u16;
+        record.length = match random.below(4) {
+            0 => 0,
+            1 => 65_535,
+            _ => (fault - start + random.below(2)) as u16,
+        };
+        record.slot = random.below(4) as u16;
+    }
+}
+
+/// A switch with odd bounds or counts, ahead of a load and a dereference.
+fn odd_switch(random: &mut Random, fault: &mut u16) -> Vec<u8> {
+    let edges = [0, 1, 2, -1, i32::MAX, i32::MIN, i32::MAX - 1, i32::MIN + 1, 3, 100_000, 0x2000_0000, 0x4000_0000];
+    let mut code = vec![0; random.below(4)];
+    let at = code.len();
+    let is_table = random.once_in(2);
+    code.push(if is_table { 170 } else { 171 });
+    code.resize((at + 1).next_multiple_of(4), 0);
+    code.extend((random.below(20) as i32).to_be_bytes());
+    code.extend(edges[random.below(edges.len())].to_be_bytes());
+    if is_table {
+        code.extend(edges[random.below(edges.len())].to_be_bytes());
+    }
+    for _ in 0..random.below(5) {
+        code.extend((random.below(40) as i32 - 8).to_be_bytes());
+    }
+    code.extend([0x2a, 0xbe]);
+    *fault = code.len() as u16 - 1;
+    if random.once_in(3) {
+        code.extend([0xaa, 0, 0, 0]);
+    }
+    code
+}
+
+/// Many slots, then a dereference.
+fn deep(random: &mut Random, fault: &mut u16) -> Vec<u8> {
+    let count = if random.once_in(60) { random.between(1_000, 3_000) } else { random.below(130) };
+    let mut code: Vec<u8> = (0..count).map(|_| [0x2a, 0x2b, 9, 14, 4, 0x59, 0x5c][random.below(7)]).collect();
+    code.push([0xbe, 0xbf, 46, 80, 83][random.below(5)]);
+    *fault = code.len() as u16 - 1;
+    code
+}
+
+/// A branch into the operand of an instruction that the walk then reads from there.
+fn into_an_instruction(random: &mut Random, fault: &mut u16) -> Vec<u8> {
+    let mut code = vec![0xa7, 0, 4, 0x10, random.byte()];
+    code.extend((0..random.below(3)).map(|_| random.below(60) as u8));
+    code.extend([0xbe, 0xb1]);
+    *fault = code.len() as u16 - 2;
+    code
+}
+
+/// Tables and texts of the greatest sizes.
+fn huge(random: &mut Random) -> Parts {
+    let mut case = parts(random);
+    match random.below(5) {
+        0 => {
+            case.flags = 8 * random.below(2) as u16;
+            case.code = vec![0x2b, 0xbe];
+            case.fault = 1;
+            case.records.clear();
+            let count = random.between(32_766, 32_769);
+            case.signature = [b":(", &b"J".repeat(count)[..], b"IIII"].concat();
+        }
+        1 => {
+            case.members =
+                (1..=random.between(2_000, 9_000) as u16).map(|index| Member { index, ..Member::default() }).collect();
+        }
+        2 => {
+            let record = Record { start: 0, length: 65_535, slot: 9, name: b"n".to_vec() };
+            case.records = vec![record; random.between(2_000, 9_000)];
+        }
+        3 => {
+            let name = vec![b'x'; random.between(65_534, 65_535)];
+            case.records = vec![Record { start: 0, length: 65_535, slot: 0, name }];
+            case.code = vec![0x2a, 0xbe];
+            case.fault = 1;
+        }
+        _ => {
+            case.code = vec![0; random.between(65_530, 65_533)];
+            case.code.extend([0x2a, 0xbe]);
+            case.fault = case.code.len() as u16 - 1;
+            let at = case.code.len() - 5;
+            case.code[at..at + 3].copy_from_slice(&[0xa7, 0, 3]);
+        }
+    }
+    case
+}
+
+/// A case of the greatest length, or one byte longer.
+fn longest(random: &mut Random) -> Vec<u8> {
+    let mut case = parts(random);
+    case.records = vec![Record { name: vec![b'n'; 65_000], ..Record::default() }; 16];
+    let wanted = crate::layout::LONGEST + random.below(2);
+    // The last record has three numbers of a byte and a length of two.
+    let missing = wanted - lay_out(&case).len() - 5;
+    case.records.push(Record { name: vec![b'n'; missing], ..Record::default() });
+    lay_out(&case)
+}

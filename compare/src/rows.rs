@@ -1,0 +1,199 @@
+//! Fixed rows: document 01's bench rows and the readings of it, each with what both sides must say; and the smallest inputs of
+//! the listed differences, with what each side says.
+use crate::cases::Run;
+use crate::descriptors::STRICT_WRAPPED;
+use crate::layout::{lay_out, Member, Parts, Record};
+use crate::rule::Facts;
+use crate::sample::{lenient, line, strict};
+use crate::sides::{quietly, Build, Checked, Held, Wrapped};
+
+/// Default 0, low 0, high 1 and two entries.
+const TABLE: [u8; 20] = [0, 0, 0, 0, 0, 0, 0, 0, 0, 0, 0, 1, 0, 0, 0, 0, 0, 0, 0, 0];
+
+/// A code, an index and the length there.
+fn length_rows() -> Vec<(Vec<u8>, usize, Option<usize>)> {
+    vec![
+        (vec![0xc4, 0x84, 0, 1, 0, 1], 0, Some(6)),
+        (vec![0xc4, 0x15, 0, 1], 0, Some(4)),
+        (vec![0xc4], 0, None),
+        ([&[0xaa, 0, 0, 0][..], &TABLE].concat(), 0, Some(24)),
+        ([&[0, 0, 0, 0xaa][..], &TABLE].concat(), 3, Some(21)),
+        (vec![0xab, 0, 0, 0, 0, 0, 0, 0, 0, 0, 0, 0], 0, Some(12)),
+        (vec![0xab, 0, 0, 0, 0, 0, 0, 0, 255, 255, 255, 255], 0, Some(12)),
+        (vec![0xca], 0, Some(1)),
+        (vec![0xb6, 0], 0, None),
+    ]
+}
+
+/// A static method without members or records.
+fn bare(code: &[u8], fault: u16, signature: &[u8]) -> Parts {
+    Parts { flags: 8, fault, code: code.to_vec(), signature: signature.to_vec(), ..Parts::default() }
+}
+
+/// The example of the program.
+fn example() -> Parts {
+    let length = Member {
+        index: 1,
+        is_method: true,
+        class: b"java/lang/String".to_vec(),
+        name: b"length".to_vec(),
+        descriptor: b"()I".to_vec(),
+    };
+    Parts { members: vec![length], ..bare(&[0x2a, 0xb6, 0, 1, 0x57, 0xb1], 1, b"m:(Ljava/lang/String;)V") }
+}
+
+/// A record that names local 0 from index 2 on, for a length.
+fn named(code: &[u8], length: u16) -> Parts {
+    let record = Record { start: 2, length, slot: 0, name: b"n".to_vec() };
+    Parts { records: vec![record], ..bare(code, code.len() as u16 - 1, b"m:()V") }
+}
+
+/// A case, and the line that `npe` prints for it; `~` stands for the words of an array's length.
+fn case_rows() -> Vec<(Parts, &'static str)> {
+    vec![
+        (example(), "0 2 4 1 Cannot invoke \"String.length()\" because \"<parameter1>\" is null"),
+        (bare(&[0, 0, 0x2a, 0xbe, 0x57, 0xa7, 0xff, 0xfd], 3, b""), "0 2 6 1 ~ because \"<local0>\" is null"),
+        (bare(&[0, 0, 0x2a, 0xbe, 0x57, 0xa7, 0xff, 0xfe], 3, b""), "0 1 6 0 ~"),
+        (bare(&[0xa7, 0xff, 0xff, 0xb1], 3, b""), "1 0 0 0"),
+        (bare(&[0x2a, 0x11, 0xbe, 0, 0xb1], 2, b""), "0 1 3 2 ~"),
+        (bare(&[0x2a, 0xbe, 0xb6, 0], 1, b""), "0 1 2 0 ~"),
+        (bare(&[0xa7, 0, 4, 0x10, 0xb2, 0xbe], 5, b""), "0 1 3 0 ~"),
+        (bare(&[0xa7, 0, 4, 0x10, 0x11, 0xbe], 5, b""), "0 1 3 1 ~"),
+        (named(&[0, 0, 0x2a, 0xbe], 1), "0 2 4 3 ~ because \"n\" is null"),
+        (named(&[0, 0, 0, 0x2a, 0xbe], 1), "0 2 5 4 ~ because \"<local0>\" is null"),
+        (named(&[0, 0, 0x2a, 0xbe], 0), "0 2 4 3 ~ because \"<local0>\" is null"),
+        (bare(&[0x2a, 0xbe], 1, b"m:(JI)V"), "0 2 2 1 ~ because \"<parameter1>\" is null"),
+        (bare(&[0x2b, 0xbe], 1, b"m:(JI)V"), "0 2 2 1 ~ because \"<local1>\" is null"),
+        (bare(&[0x2c, 0xbe], 1, b"m:(JI)V"), "0 2 2 1 ~ because \"<parameter2>\" is null"),
+        (bare(&[0x2d, 0xbe], 1, b"m:(JI)V"), "0 2 2 1 ~ because \"<local3>\" is null"),
+        (bare(&[0x2a, 0xbe], 1, b"m:)I"), "0 2 2 1 ~ because \"<parameter1>\" is null"),
+        (bare(&[0x2a, 0xbe], 1, b"m:JI"), "0 2 2 1 ~ because \"<parameter1>\" is null"),
+        (bare(&[0x2b, 0xbe], 1, b"m:(IV"), "0 2 2 1 ~ because \"<local1>\" is null"),
+    ]
+}
+
+/// A descriptor, and its slots, return slots and list.
+const LENIENT_ROWS: [(&str, &str); 6] = [
+    ("(IJ[D)V", "4 0 int, long, double[]"),
+    ("(La)J;)V", "1 2 a)J"),
+    ("(I", "1 - int"),
+    ("()", "0 - "),
+    ("(L;)V", "1 0 "),
+    ("(V)V", "- 0 "),
+];
+
+/// A descriptor, whether it is read as a method, and the refusal or the numbers.
+fn strict_rows() -> Vec<(String, bool, String)> {
+    let row = |text: &str, as_method, expected: &str| (text.to_string(), as_method, expected.to_string());
+    let integers = format!("({})V", "I".repeat(256));
+    vec![
+        row("()", true, "1"),
+        row("())", true, "12"),
+        row(&("[".repeat(255) + "I"), false, "0 73 255 0 0"),
+        row(&("[".repeat(256) + "I"), false, "2"),
+        row(&"[".repeat(256), false, "2"),
+        row(")x", false, "3"),
+        row("[)", false, "7"),
+        row("V", false, "0 86 0 0 0"),
+        row("L[;", false, "0 76 0 1 1"),
+        row("(V", true, "11"),
+        row("L", false, "6"),
+        row("", false, "1"),
+        row("", true, "10"),
+        row("(J[[La/b;)V", true, "0 74 0 0 0 76 2 5 3 86 0 0 0"),
+        row(&integers, true, &format!("0{} 86 0 0 0", " 73 0 0 0".repeat(256))),
+    ]
+}
+
+/// Compares the two sides on the rows, and the Rust with what the rows say.
+pub fn compare(run: &mut Run) {
+    for (parts, expected) in case_rows() {
+        let bytes = lay_out(&parts);
+        let expected = expected.replace('~', "Cannot read the array length");
+        run.book.case("fixed rows");
+        run.case(&bytes);
+        let said = String::from_utf8(line(Facts::of(&parts).answer(16, 128))).expect("the rows are UTF-8");
+        run.book.expect(&bytes, "row", expected, said);
+    }
+    for (code, pc, expected) in length_rows() {
+        run.book.case("fixed rows");
+        run.case(&lay_out(&bare(&code, pc as u16, b"")));
+        run.book.expect(&code, "row", expected, Wrapped::length(&code, pc));
+    }
+}
+
+/// The rows of descriptors.
+pub fn compare_descriptors(run: &mut Run) {
+    for (text, expected) in LENIENT_ROWS {
+        run.book.descriptor("fixed descriptors");
+        run.descriptor(text.as_bytes());
+        run.book.expect(text.as_bytes(), "row", expected.as_bytes().to_vec(), lenient(text));
+    }
+    for (text, as_method, expected) in strict_rows() {
+        run.book.descriptor("fixed descriptors");
+        run.descriptor(text.as_bytes());
+        let said = if as_method { (STRICT_WRAPPED.as_method)(&text) } else { (STRICT_WRAPPED.as_type)(&text) };
+        run.book.expect(text.as_bytes(), "row", expected.as_bytes().to_vec(), strict(said));
+    }
+}
+
+/// A `tableswitch` at 0 with default 0, these bounds, and bytes behind them.
+fn table(low: u32, high: u32, behind: &[u8]) -> Vec<u8> {
+    [&[0xaa, 0, 0, 0, 0, 0, 0, 0][..], &low.to_be_bytes(), &high.to_be_bytes(), behind].concat()
+}
+
+/// What a build says, in words.
+fn words<T: std::fmt::Debug>(answer: Option<T>) -> String {
+    answer.map_or("panics".to_string(), |answer| format!("{answer:?}"))
+}
+
+fn print_line(input: &str, library: String, checked: String, wrapped: String) {
+    println!("{input:<62} {library:<12} {checked:<28} {wrapped}");
+}
+
+/// Prints what each side says of the smallest input of each listed difference.
+pub fn print_listed() {
+    print_line("input", "library".to_string(), "checked".to_string(), "wrapped".to_string());
+    let codes = [
+        ("D1 length at 0: low 1, high 0", table(1, 0, &[])),
+        ("D2 length at 0: low -1, high 2^31 - 1, then 2a be", table(u32::MAX, 0x7fff_ffff, &[0x2a, 0xbe])),
+        ("D2 length at 0: low 1, high -2^31, then 2a be", table(1, 0x8000_0000, &[0x2a, 0xbe])),
+        (
+            "D2 length at 0: low 2^31 - 1, high -2^31, 8 zeros, 2a be",
+            table(0x7fff_ffff, 0x8000_0000, &[0, 0, 0, 0, 0, 0, 0, 0, 0x2a, 0xbe]),
+        ),
+    ];
+    for (input, code) in codes {
+        let library = format!("{:?}", korsepal::instruction_length(&code, 0));
+        print_line(
+            input,
+            library,
+            words(quietly(|| Checked::length(&code, 0))),
+            words(quietly(|| Wrapped::length(&code, 0))),
+        );
+    }
+    print_slots("D3 local 1, static, :( and 32,768 J", [b":(", &b"J".repeat(32_768)[..]].concat());
+    print_slots("D3 local 1, static, :( and 32,767 J and IIII", [b":(", &b"J".repeat(32_767)[..], b"IIII"].concat());
+    let code = [0xa7, 0xff, 0xff, 0xb1];
+    let library = format!("{:?}", korsepal::block_leader(&code, u64::MAX).leader);
+    let checked = words(quietly(|| Checked::leader(&code, usize::MAX)));
+    print_line(
+        "D5 leader: a7 ff ff b1, fault 2^64 - 1",
+        library,
+        checked,
+        words(quietly(|| Wrapped::leader(&code, usize::MAX))),
+    );
+}
+
+/// The name of local 1 by a long signature.
+fn print_slots(input: &str, signature: Vec<u8>) {
+    let parts = bare(&[0x2b, 0xbe], 1, &signature);
+    let held = Held::new(&parts, &signature);
+    let (checked, wrapped) = (Checked::over(&parts, &held), Wrapped::over(&parts, &held));
+    let mut output = [0; 64];
+    let library = match korsepal::local_name(&lay_out(&parts), 1, 0, &mut output) {
+        korsepal::Name::Named(name) => String::from_utf8_lossy(name).into_owned(),
+        other => format!("{other:?}"),
+    };
+    print_line(input, library, words(quietly(|| checked.name(1, 0))), words(quietly(|| wrapped.name(1, 0))));
+}

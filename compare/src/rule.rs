@@ -1,0 +1,205 @@
+//! What the Rust says of a case, and what follows from it by document 01: counts, answers and room.
+//!
+//! The walk from a leader lands at an index exactly when `simulate_block` reaches it. So its landings, their number and their
+//! heights are the Rust's own.
+use crate::differences::{cut_signature, scan};
+use crate::layout::Parts;
+use crate::sides::{quietly, Build, Checked, Held, Holding, Origin, Wrapped};
+use korsepal::{Answer, Walk};
+
+/// No instruction of the walk is longer.
+const LONGEST_WALKED: usize = 5;
+
+/// The list after a completed instruction.
+#[derive(Clone, Copy)]
+pub struct Landing {
+    /// The index of the instruction.
+    pub by: usize,
+    /// Where the walk stands then.
+    place: usize,
+    pub height: usize,
+}
+
+/// The landings from a leader, as far as they were asked for. Those of a nearer fault are the first of them.
+pub struct Landings {
+    leader: usize,
+    found: Vec<Landing>,
+    /// No more follow.
+    ended: bool,
+}
+
+impl Landings {
+    pub fn new(leader: usize) -> Self {
+        Landings { leader, found: Vec::new(), ended: false }
+    }
+
+    /// The landings up to the first at or past a fault.
+    fn up_to(&mut self, side: &impl Build, code: &[u8], fault: usize) -> &[Landing] {
+        let mut at = self.found.last().map_or(self.leader, |landing| landing.place);
+        while at < fault && !self.ended {
+            let mut places = (1..=LONGEST_WALKED).filter_map(|length| at.checked_add(length));
+            let next = places.find_map(|place| Some((place, side.walk(code, self.leader, place)?.len())));
+            match next {
+                Some((place, height)) => {
+                    self.found.push(Landing { by: at, place, height });
+                    at = place;
+                }
+                None => self.ended = true,
+            }
+        }
+        let count = self.found.partition_point(|landing| landing.by < fault);
+        &self.found[..count]
+    }
+}
+
+/// A walk of the Rust, from a leader to a fault.
+pub struct Walked {
+    /// One to a completed instruction, the one that passes the fault included.
+    pub landings: Vec<Landing>,
+    /// The cells, where the fault is reached.
+    pub cells: Option<Vec<u64>>,
+}
+
+/// A cell by document 01: 0 when opaque, else 1 + 256 * load index + local.
+fn cell(origin: Origin) -> u64 {
+    match origin {
+        None => 0,
+        Some((local, load)) => 1 + 256 * load as u64 + u64::from(local),
+    }
+}
+
+impl Walked {
+    /// The walk to a fault, over landings of the same leader and code.
+    pub fn new(side: &impl Build, code: &[u8], landings: &mut Landings, fault: usize) -> Self {
+        let leader = landings.leader;
+        Walked {
+            landings: landings.up_to(side, code, fault).to_vec(),
+            cells: side.walk(code, leader, fault).map(|list| list.into_iter().map(cell).collect()),
+        }
+    }
+
+    /// The greatest height.
+    pub fn highest(&self) -> usize {
+        self.landings.iter().map(|landing| landing.height).max().unwrap_or(0)
+    }
+
+    /// The index of the first instruction after which the list exceeds a room.
+    fn lacking(&self, room: usize) -> Option<u64> {
+        let landing = self.landings.iter().find(|landing| landing.height > room)?;
+        Some(landing.by as u64)
+    }
+
+    /// What the walk alone answers with a room.
+    pub fn answer(&self, room: usize) -> Walk<'_> {
+        let count = self.landings.len() as u64;
+        match (self.lacking(room), &self.cells) {
+            (Some(at), _) => Walk::NoRoom { at },
+            (None, Some(slots)) => Walk::Done { slots, count },
+            (None, None) => Walk::Failed { count },
+        }
+    }
+}
+
+/// What the Rust says of a case that keeps its layout.
+pub struct Facts {
+    pub holding: Holding,
+    pub checked: Checked,
+    pub wrapped: Wrapped,
+    /// A table of the scan has high < low, or leaves 32 bits.
+    pub falling: bool,
+    pub wide: bool,
+    /// The slots of the parameters pass 65,535.
+    pub long_signature: bool,
+    /// The wrapped build's own message is another than document 01's.
+    pub wrapped_differs: bool,
+    pub action: Option<Vec<u8>>,
+    pub message: Option<Vec<u8>>,
+    pub scan: usize,
+    pub leader: Option<usize>,
+    pub walked: Option<Walked>,
+}
+
+/// The message put together as `build_message` does, for a leader that stands in for its own.
+fn composed(side: &Wrapped, code: &[u8], leader: Option<usize>, fault: usize) -> Option<String> {
+    let (action, depth) = side.action(code, fault)?;
+    let slots = leader.and_then(|leader| side.walk(code, leader, fault)).unwrap_or_default();
+    let origin = slots.len().checked_sub(1 + depth).and_then(|place| slots[place]);
+    Some(match origin {
+        Some((local, load)) => format!("{action} because \"{}\" is null", side.name(local, load)),
+        None => action,
+    })
+}
+
+impl Facts {
+    pub fn of(parts: &Parts) -> Self {
+        Self::with(parts, &mut None)
+    }
+
+    /// The facts of a case, over landings that an earlier fault of the same method left.
+    pub fn with(parts: &Parts, landings: &mut Option<Landings>) -> Self {
+        let code = &parts.code;
+        let fault = usize::from(parts.fault);
+        let cut = cut_signature(&parts.signature, parts.flags & 8 != 0);
+        let held = Held::new(parts, cut.unwrap_or(&parts.signature));
+        let wrapped = Wrapped::over(parts, &held);
+        let whole = if cut.is_some() { Held::new(parts, &parts.signature) } else { held };
+        let checked = Checked::over(parts, &whole);
+        let scan = scan(code);
+        let leader = Wrapped::leader(&scan.code, fault);
+        let message = if scan.wide { composed(&wrapped, code, leader, fault) } else { wrapped.message(fault) };
+        let wrapped_differs = (scan.wide || cut.is_some()) && Wrapped::over(parts, &whole).message(fault) != message;
+        let holding = whole.holding;
+        let walked = leader.map(|leader| {
+            let kept = landings.take().filter(|kept| kept.leader == leader);
+            let landings = landings.insert(kept.unwrap_or(Landings::new(leader)));
+            Walked::new(&wrapped, code, landings, fault)
+        });
+        Facts {
+            holding,
+            falling: scan.falling,
+            wide: scan.wide,
+            long_signature: cut.is_some(),
+            wrapped_differs,
+            action: wrapped.action(code, fault).map(|(action, _)| holding.release(action)),
+            message: message.map(|message| holding.release(message)),
+            scan: scan.count,
+            leader,
+            walked,
+            checked,
+            wrapped,
+        }
+    }
+
+    /// Whether some listed difference holds of the case.
+    pub fn listed(&self) -> bool {
+        self.falling || self.wide || self.long_signature || self.holding == Holding::ByteByByte
+    }
+
+    /// The message of the checked build: `None` where it panics.
+    pub fn checked_message(&self, fault: usize) -> Option<Option<Vec<u8>>> {
+        let message = quietly(|| self.checked.message(fault))?;
+        Some(message.map(|message| self.holding.release(message)))
+    }
+
+    /// The greatest height of the walk.
+    pub fn highest(&self) -> usize {
+        self.walked.as_ref().map_or(0, Walked::highest)
+    }
+
+    /// What a report answers with room for so many slots and bytes.
+    pub fn answer(&self, room: usize, output: usize) -> Answer<'_> {
+        let Some(message) = &self.message else { return Answer::NoMessage };
+        if let Some(at) = self.walked.as_ref().and_then(|walked| walked.lacking(room)) {
+            return Answer::NoRoom { at };
+        }
+        if message.len() > output {
+            return Answer::NoOutput { needed: message.len() as u64 };
+        }
+        Answer::Message {
+            text: message,
+            kind: if self.action.as_ref() == Some(message) { 1 } else { 2 },
+            scan: self.scan as u32,
+            block: self.walked.as_ref().map_or(0, |walked| walked.landings.len() as u32),
+        }
+    }
+}
