@@ -461,22 +461,12 @@ fn walk_block(
         (blockWalk (now (code .entry)) (now (members .entry)) count leader fault (length (now (stack .entry)))) ⌝ }
 {
     clear(stack);
-    let lengths = bytecode::fixed_lengths();
+    let lens = bytecode::fixed_lengths();
     let mut pc = leader;
     let mut height: usize = 0;
     let mut completed: usize = 0;
     while pc < fault {
-        match step_at(
-            &lengths,
-            code,
-            members,
-            count,
-            table,
-            pc,
-            fault,
-            stack,
-            height,
-        ) {
+        match step_at(&lens, code, members, count, table, pc, fault, stack, height) {
             Step::Stops => {
                 clear(&mut stack[..height]);
                 return Walk::Failed { count: completed };

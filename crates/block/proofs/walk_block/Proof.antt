@@ -12,11 +12,11 @@ use Rattle.block.proofs.walk_block.Statement.{statement}
 use Rattle.block.proofs.walk_block.Tie as tie
 
 abbrev Inv-loop : tie.InvT-loop
-Inv-loop code members count table leader fault stack₀ lengths pc₀ height₀ completed₀ stack pc height completed =
+Inv-loop code members count table leader fault stack₀ lens pc₀ height₀ completed₀ stack pc height completed =
     looping.Inv code members count leader fault (length stack₀) stack pc height completed
 
 abbrev μ-loop : tie.MeasureT-loop
-μ-loop code members count table leader fault stack₀ lengths pc₀ height₀ completed₀ stack pc height completed = fault - pc
+μ-loop code members count table leader fault stack₀ lens pc₀ height₀ completed₀ stack pc height completed = fault - pc
 
 clear-requires : tie.Need-clear-requires Inv-loop μ-loop
 clear-requires c κs = search needs
@@ -40,15 +40,17 @@ step-at-requires c κs =
 -- each instruction has a byte before the fault, so the count is small
 counted : (c : tie.After-step-at Inv-loop μ-loop) → c .before .before .before .before .loop .completed + 1 < 2 ^ 64
 counted c =
-    let at = c .before .before .before .before .loop in
-    let start = c .before .before .before .before .before .before .before .before .before .before .before .before .before .before in
+    let turn = c .before .before .before .before in
+    let at = turn .loop in
+    let start = turn .before .before .before .before .before .before .before .before .before .before in
     omega (arith, at .inv .2 .1, at .inv .2 .2, c .before .before .before .loop-test .taken, start .fits .fault)
 
 enum-told : tie.Need-enum-told Inv-loop μ-loop
 enum-told c = search needs
 
 slice-relend-prefix-clear : tie.Need-slice-relend-prefix-clear Inv-loop μ-loop
-slice-relend-prefix-clear c = omega (arith, c .before .before .before .before .before .before .before .before .loop .inv .1 .high)
+slice-relend-prefix-clear c =
+    omega (arith, c .before .before .before .before .before .before .before .before .loop .inv .1 .high)
 
 slice-aggregate-clear : tie.Need-slice-aggregate-clear Inv-loop μ-loop
 slice-aggregate-clear c = sym (length-take-le _ _ (slice-relend-prefix-clear (c .before)))
@@ -74,7 +76,8 @@ enum-told-2 : tie.Need-enum-told-2 Inv-loop μ-loop
 enum-told-2 c = search needs
 
 slice-relend-prefix-clear-2 : tie.Need-slice-relend-prefix-clear-2 Inv-loop μ-loop
-slice-relend-prefix-clear-2 c = omega (arith, c .before .before .before .before .before .before .before .before .loop .inv .1 .high)
+slice-relend-prefix-clear-2 c =
+    omega (arith, c .before .before .before .before .before .before .before .before .loop .inv .1 .high)
 
 slice-aggregate-clear-2 : tie.Need-slice-aggregate-clear-2 Inv-loop μ-loop
 slice-aggregate-clear-2 c = sym (length-take-le _ _ (slice-relend-prefix-clear-2 (c .before)))
