@@ -3,7 +3,10 @@
  * Every function takes any input, ends, and touches nothing but the memory that it is lent. A slice is two arguments, a
  * pointer and a count. Nothing is allocated and nothing is kept.
  * "Document 01" is the customer's requirements; the numbers are those of its "Numbers returned". A number that is not named
- * for an answer is 0. */
+ * for an answer is 0.
+ *
+ * Results are structs by value, laid out as C lays them out: numbers of 32 bits at 4-byte places, of 64 bits at 8-byte places,
+ * in the order written here. Their sizes stand at the end of this file. */
 #ifndef KORSEPAL_H
 #define KORSEPAL_H
 
@@ -110,6 +113,17 @@ korsepal_types_result korsepal_parse_type(const uint8_t *descriptor, size_t desc
                                           size_t numbers_count);
 korsepal_types_result korsepal_parse_method(const uint8_t *descriptor, size_t descriptor_count, uint64_t *numbers,
                                             size_t numbers_count);
+
+#if defined(__STDC_VERSION__) && __STDC_VERSION__ >= 201112L
+_Static_assert(sizeof(korsepal_report_result) == 24, "four numbers of 32 bits, one of 64");
+_Static_assert(sizeof(korsepal_length_result) == 16, "one of 32, four bytes unused, one of 64");
+_Static_assert(sizeof(korsepal_leader_result) == 24, "one of 32, four bytes unused, two of 64");
+_Static_assert(sizeof(korsepal_walk_result) == 32, "one of 32, four bytes unused, three of 64");
+_Static_assert(sizeof(korsepal_name_result) == 16, "one of 32, four bytes unused, one of 64");
+_Static_assert(sizeof(korsepal_parameters_result) == 24, "one of 32, four bytes unused, two of 64");
+_Static_assert(sizeof(korsepal_slots_result) == 8, "two of 32");
+_Static_assert(sizeof(korsepal_types_result) == 16, "one of 32, four bytes unused, one of 64");
+#endif
 
 #ifdef __cplusplus
 }
