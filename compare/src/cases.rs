@@ -1,12 +1,12 @@
 //! One case on both sides: report, leader, walk, names and lengths.
 use crate::book::{Book, Column};
 use crate::differences::{scan, table, within_bounds, Listed, Table};
-use crate::layout::{self, Parts, Wrong};
+use crate::layout::{self, Parts, Record, Wrong};
 use crate::random::Random;
 use crate::room::Lender;
 use crate::rule::{Facts, Landings, Walked};
 use crate::sides::{quietly, Build, Checked, Holding, Wrapped};
-use korsepal::{Answer, Leader, Name, Walk};
+use korsepal::{Answer, Kind, Leader, LocalRecord, Member, Name, Walk};
 
 /// One case in so many is tried with every stack from none to enough, and one with every output.
 const ALL_ROOMS: usize = 32;
@@ -16,6 +16,22 @@ const ALL_OUTPUTS: usize = 128;
 /// and walk.
 const LONG_CODE: usize = 2_000;
 const WHOLE_FAULTS: usize = 8;
+
+/// The member at a pool index, where it is of a kind.
+fn member(parts: &Parts, index: u16, kind: Kind) -> Option<Member> {
+    let place = parts.members.binary_search_by_key(&index, |member| member.index).ok()?;
+    let found = &parts.members[place];
+    (found.is_method == (kind == Kind::Method)).then(|| Member {
+        kind,
+        class: found.class.clone(),
+        name: found.name.clone(),
+        descriptor: found.descriptor.clone(),
+    })
+}
+
+fn local_record(record: &Record) -> LocalRecord {
+    LocalRecord { start: record.start, length: record.length, slot: record.slot, name: record.name.clone() }
+}
 
 /// What goes through a run.
 pub struct Run {
@@ -85,6 +101,19 @@ impl Run {
         self.count_facts(facts, message_panics || leader_panics);
         self.walks(bytes, parts, facts);
         self.names(bytes, parts, facts);
+        self.built_message(bytes, parts, facts);
+    }
+
+    /// The Rust crate's `build_message`, which lays out a case from what a virtual machine has at hand. Its texts are strings.
+    fn built_message(&mut self, bytes: &[u8], parts: &Parts, facts: &Facts) {
+        if facts.holding == Holding::AsItIs {
+            let signature = std::str::from_utf8(&parts.signature).expect("it was found to be UTF-8");
+            let records: Vec<LocalRecord> = parts.records.iter().map(local_record).collect();
+            let lookup = |index: u16, kind: Kind| member(parts, index, kind);
+            let fault = usize::from(parts.fault);
+            let ours = korsepal::build_message(parts.flags, &parts.code, signature, lookup, &records, fault);
+            self.book.expect(bytes, "message of build_message", ours.map(String::into_bytes), facts.message.clone());
+        }
     }
 
     /// The report with enough room, and the walk of the case.

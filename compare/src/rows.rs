@@ -102,6 +102,9 @@ fn strict_rows() -> Vec<(String, bool, String)> {
         row("", true, "10"),
         row("(J[[La/b;)V", true, "0 74 0 0 0 76 2 5 3 86 0 0 0"),
         row(&integers, true, &format!("0{} 86 0 0 0", " 73 0 0 0".repeat(256))),
+        // The two examples in the comments of the Rust's parser.
+        row("Ljava/lang/String;", false, "0 76 0 1 16"),
+        row("([[[Ljava/lang/String;)[[[I", true, "0 76 3 5 16 73 3 0 0"),
     ]
 }
 
