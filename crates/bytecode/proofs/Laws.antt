@@ -2,11 +2,12 @@
 -- Assumes nothing.
 use Prim.Native.Nat.{ℕ, zero, suc, _+_, _≤_, _<_}
 use native.Mathlib.Omega.{arith}
-use mathlib.Core.Path.{_≡_, refl, sym}
+use mathlib.Core.Path.{_≡_, refl, _∙_, sym}
 use mathlib.Core.Bool.{Bool, true, false}
 use mathlib.Core.List.{List}
 use lib.Dec.{eqb, leb}
 use lib.ListN.{length}
+use lib.Seq.{ext-getD}
 use borrow.Author.Tests.{leb-true, ne-eqb}
 use Rattle.basics.specs.Bytes.{byteAt}
 use Rattle.basics.specs.Choice.{pick}
@@ -55,7 +56,7 @@ pub by-fixed-lengths :
     (lengths code : List ℕ) (pc : ℕ) → FixedLengths lengths → byteAt code pc < 256 → lengthBy lengths code pc ≡ lengthOf code pc
 unfolding lengthBy lengthOf bytesOf fixedLength
 by-fixed-lengths lengths code pc table below =
-    rw (table (byteAt code pc) below) (by-format (formatOf (byteAt code pc)))
+    rw (table .entries (byteAt code pc) below) (by-format (formatOf (byteAt code pc)))
   where
     by-format :
         (f : Format) →
@@ -67,33 +68,27 @@ by-fixed-lengths lengths code pc table below =
     by-format wide = refl
     by-format reserved = refl
 
--- a way to measure that is document 01's where it gives a length is a length rule
-pub rule-of :
-    (measure : List ℕ → ℕ → Measure) →
-    ((code : List ℕ) (pc n : ℕ) → measure code pc ≡ Length n → lengthOf code pc ≡ Length n) → LengthRule
-rule-of measure documented =
-    record {
-      measure = measure;
-      positive = λ code pc n e. omega (arith, bytes-positive code pc, given code pc n (documented code pc n e) .bytes);
-      inside = λ code pc n e. given code pc n (documented code pc n e) .inside;
-      documented = documented;
-    }
+-- there is one such table
+pub fixed-lengths-once : (one another : List ℕ) → FixedLengths one → FixedLengths another → one ≡ another
+fixed-lengths-once one another is was =
+    ext-getD 0 one another (is .sized ∙ sym (was .sized))
+    (λ op below. is .entries op (omega (arith, is .sized)) ∙ sym (was .entries op (omega (arith, is .sized))))
 
--- document 01's own rule
-pub document-rule : LengthRule
-document-rule = rule-of lengthOf (λ code pc n e. e)
+-- by any rule a length is at least 1
+pub rule-positive : (rule : LengthRule) (code : List ℕ) (pc n : ℕ) → rule .measure code pc ≡ Length n → 1 ≤ n
+rule-positive rule code pc n e =
+    omega (arith, bytes-positive code pc, given code pc n (rule .documented code pc n e) .bytes)
 
--- it measures by document 01's definition
-pub document-measures : document-rule .measure ≡ lengthOf
-unfolding document-rule rule-of
-document-measures = refl
+-- and passes no end
+pub rule-inside : (rule : LengthRule) (code : List ℕ) (pc n : ℕ) → rule .measure code pc ≡ Length n → pc + n ≤ length code
+rule-inside rule code pc n e = given code pc n (rule .documented code pc n e) .inside
 
 -- measured implies in bounds: by any rule, each byte of an instruction that has a length lies in the code
 pub measured-in-bounds :
     (rule : LengthRule) (code : List ℕ) (pc n : ℕ) → rule .measure code pc ≡ Length n →
     (k : ℕ) → k < bytesOf code pc → pc + k < length code
 measured-in-bounds rule code pc n e k below =
-    omega (arith, given code pc n (rule .documented code pc n e) .bytes, rule .inside code pc n e)
+    omega (arith, given code pc n (rule .documented code pc n e) .bytes, rule-inside rule code pc n e)
 
 -- two answers with the same numbers are the same
 pub numbered-injective : (one another : Measure) → numbered one ≡ numbered another → one ≡ another

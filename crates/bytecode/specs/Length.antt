@@ -64,9 +64,10 @@ fixedBy reserved = 1
 unfoldable pub fixedLength : ℕ → ℕ
 fixedLength op = fixedBy (formatOf op)
 
--- a table that holds the fixed length of each opcode
-abbrev pub FixedLengths : List ℕ → Type 0
-FixedLengths lengths = (op : ℕ) → op < 256 → byteAt lengths op ≡ fixedLength op
+-- a table of 256 entries that holds the fixed length of each opcode
+pub record FixedLengths (lengths : List ℕ) : Type 0 where
+  pub sized : length lengths ≡ 256
+  pub entries : (op : ℕ) → op < 256 → byteAt lengths op ≡ fixedLength op
 
 -- "An instruction that would pass the end has no length."
 unfoldable pub within : List ℕ → ℕ → ℕ → Measure

@@ -13,7 +13,7 @@ use Rattle.basics.specs.Member.{_∈_}
 use Rattle.jvms.specs.Branch.{landingsAt}
 use Rattle.jvms.specs.Machine.{Pool, State, target}
 use Rattle.bytecode.specs.Length.{lengthOf}
-use Rattle.bytecode.proofs.Laws.{document-rule}
+use Rattle.bytecode.specs.Rule.{document-rule}
 use Rattle.leader.specs.Scan.{blockLeader}
 use Rattle.leader.specs.declared.Scan.the-variants.{Leader}
 use Rattle.leaders.specs.Leader.{Reached}

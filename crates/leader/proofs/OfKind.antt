@@ -6,10 +6,10 @@ use mathlib.Core.Path.{_≡_, refl, _∙_, sym, ap, subst}
 use mathlib.Core.Bool.{Bool, true}
 use mathlib.Core.List.{List, [], _∷_}
 use lib.Dec.{T, eqb, eqb→eq}
-use borrow.Author.Tests.{ne-eqb}
 use Rattle.basics.specs.Bytes.{byteAt}
 use Rattle.basics.specs.Choice.{pick}
 use Rattle.basics.proofs.Every.{every, every-at, every-from}
+use Rattle.basics.proofs.Keys.{Unkeyed, orKey, every-unkeyed}
 use Rattle.jvms.specs.Format.{formatOf}
 use Rattle.bytecode.specs.Length.{tableBytes, lookupBytes, bytesOf}
 use Rattle.leader.specs.Greatest.{upTo, greatest}
@@ -48,15 +48,11 @@ pub all-of-kind :
     (kind : Kind) (a n : ℕ) → T (every (λ k. is kind (a + k)) n) → (op : ℕ) → a ≤ op → op < a + n → kind ≡ kindOf op
 all-of-kind kind a n t op from below = known kind op (every-from (is kind) a n t op from below)
 
--- n opcodes from a on are of one kind, but for one of them
-abbrev pub isOr : ℕ → Kind → ℕ → Bool
-isOr but kind op = pick (eqb op but) true (is kind op)
-
-pub all-but :
-    (kind : Kind) (but a n : ℕ) → T (every (λ k. isOr but kind (a + k)) n) →
-    (op : ℕ) → a ≤ op → op < a + n → (op ≡ but → ⊥) → kind ≡ kindOf op
-all-but kind but a n t op from below other =
-    known kind op (rw (ne-eqb op but other) at (every-from (isOr but kind) a n t op from below))
+-- so are those of them that are no keys
+pub all-unkeyed :
+    (kind : Kind) (arms : List (List ℕ)) (a n : ℕ) → T (every (λ k. orKey arms (is kind) (a + k)) n) →
+    (op : ℕ) → a ≤ op → op < a + n → Unkeyed arms op → kind ≡ kindOf op
+all-unkeyed kind arms a n t op from below rest = known kind op (every-unkeyed (is kind) arms a n t op from below rest)
 
 -- a kind that belongs to one opcode
 abbrev owned : Kind → ℕ → Bool

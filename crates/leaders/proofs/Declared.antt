@@ -15,6 +15,7 @@ use Rattle.basics.specs.Bytes.{byteAt, AreBytes}
 use Rattle.basics.specs.Choice.{pick}
 use Rattle.basics.specs.Member.{_∈_}
 use Rattle.jvms.specs.Branch.{landingsAt, endsBlock}
+use Rattle.bytecode.proofs.Laws.{rule-positive, rule-inside}
 use Rattle.bytecode.specs.Rule.{LengthRule}
 use Rattle.bytecode.specs.declared.Measure.{Measure}
 use Rattle.bytecode.specs.declared.Measure.the-variants.{Length, NoLength}
@@ -35,7 +36,7 @@ module _ (rule : LengthRule) (code : List ℕ) where
   arrived-within start = (omega arith, omega arith)
   arrived-within (next {count = count} {pc = pc} {n = n} before inside e) =
       let within = arrived-within before in
-      (omega (arith, within .0, rule .positive code pc n e), rule .inside code pc n e)
+      (omega (arith, within .0, rule-positive rule code pc n e), rule-inside rule code pc n e)
 
   -- the instructions from pc on, after so many
   abbrev restAt : ℕ → ℕ → Instructions
@@ -112,7 +113,7 @@ module _ (rule : LengthRule) (code : List ℕ) where
           Stops leader total (answered (scanStep t answer pc following) leader total)
       by-measure false e answer measured c rest = at-the-end leader total arrived (ltb-false pc (length code) e) c
       by-measure true e (Length n) measured c rest =
-          rest n (next arrived (ltb-true pc (length code) e) measured) (omega (arith, rule .positive code pc n measured)) leader total
+          rest n (next arrived (ltb-true pc (length code) e) measured) (omega (arith, rule-positive rule code pc n measured)) leader total
           (omega (arith, c))
       by-measure true e NoLength measured c rest =
           let all : count ≡ total = omega (arith, c) in

@@ -7,7 +7,7 @@ use mathlib.Core.List.{List, [], _∷_}
 use lib.ListN.{length, getD, take, length-append}
 use lib.Seq.{take-append-seam, getD-append-add}
 use Rattle.jvms.specs.Machine.{Pool, State, target}
-use Rattle.bytecode.proofs.Laws.{document-rule, document-measures}
+use Rattle.bytecode.specs.Rule.{document-rule}
 use Rattle.leaders.proofs.Declared.{nothing-lands-between}
 use Rattle.effects.specs.Depth.{depthOf, at}
 use Rattle.effects.specs.Lookup.{Lookup, lookupIn}
@@ -129,5 +129,5 @@ condition-3 r pool p =
       verySlot = very r pool p;
       nothingLands = λ pc x reached lands above below.
           nothing-lands-between document-rule [] (r .code) (p .bytes) (r .fault) (r .leader) (p .scan) (p .inside)
-          (rw document-measures (p .measured)) pc x reached lands (omega arith) below;
+          (p .measured) pc x reached lands (omega arith) below;
     }

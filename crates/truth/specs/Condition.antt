@@ -14,7 +14,7 @@ use Rattle.jvms.specs.Descriptor.{render, renderMethod, WellFormed, WellFormedM
 use Rattle.jvms.specs.Machine.{Pool, target}
 use Rattle.bytecode.specs.Length.{lengthOf}
 use Rattle.bytecode.specs.declared.Measure.the-variants.{Length}
-use Rattle.bytecode.proofs.Laws.{document-rule}
+use Rattle.bytecode.specs.Rule.{document-rule}
 use Rattle.leader.specs.Scan.{blockLeader}
 use Rattle.leader.specs.declared.Scan.the-variants.{Leader}
 use Rattle.leaders.specs.Leader.{Reached}

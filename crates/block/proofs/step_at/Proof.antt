@@ -77,7 +77,7 @@ returns-4 c =
     let a = start .args in
     let size =
     laid .before .before .fixed-by .ensures
-    ∙ start .pre .0 _ (read .before .before .before .before .before .shared-slice-known .given (a .pc) .fits) in
+    ∙ start .pre .0 .entries _ (read .before .before .before .before .before .shared-slice-known .given (a .pc) .fits) in
     stepping.lands-at (lookupIn (a .members .now) (a .count)) (a .code .now) (a .fault) (a .pc) (a .stack .now)
     (take (a .height) (a .stack .now)) (omega arith) _ (read .effect-at .ensures) _ _ _ _ size
     (rw (c .before .before .next .given .1) at (laid .apply .ensures))

@@ -14,7 +14,7 @@ fixed-by-requires c κs = search needs
 returns : tie.Need-returns
 returns c =
     let made = c .before .before in
-    c .fixed-by .ensures ∙ made .fixed-lengths .ensures (made .before .args .op) (made .before .fits .op .fits)
+    c .fixed-by .ensures ∙ made .fixed-lengths .ensures .entries (made .before .args .op) (made .before .fits .op .fits)
 
 pub fixed-length-spec : {M : Type 1} → statement M
 fixed-length-spec = tie.close (tie.spec fixed-lengths-requires fixed-by-requires returns)

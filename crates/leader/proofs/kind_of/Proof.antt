@@ -1,9 +1,10 @@
 -- `leader::kind_of` meets its contract. Each arm and each gap between arms is one computed test.
 -- Assumes nothing.
 use native.Mathlib.Omega.{arith}
+use mathlib.Core.List.{[], _∷_}
 use Rattle.leader.specs.Targets.{kindOf}
 use Rattle.leader.specs.declared.Kind.the-variants.{Near, Far, Ends, Plain}
-use Rattle.leader.proofs.OfKind.{all-of-kind, all-but}
+use Rattle.leader.proofs.OfKind.{all-of-kind, all-unkeyed}
 use Rattle.leader.proofs.kind_of.Statement.{statement}
 use Rattle.leader.proofs.kind_of.Tie as tie
 
@@ -45,7 +46,9 @@ returns-9 c = all-of-kind Plain 0 153 tt (c .before .before .args .op) (omega ar
 
 returns-10 : tie.Need-returns-10
 unfolding kindOf
-returns-10 c = all-but Plain 191 178 20 tt (c .before .before .before .before .before .args .op) (omega arith) (omega arith) (omega arith)
+returns-10 c =
+    all-unkeyed Plain ((191 ∷ []) ∷ []) 178 20 tt (c .before .before .before .before .before .args .op) (omega arith) (omega arith)
+    (tt, omega arith)
 
 returns-11 : tie.Need-returns-11
 unfolding kindOf
