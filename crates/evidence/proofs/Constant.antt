@@ -2,14 +2,13 @@
 -- Assumes nothing.
 use Prim.Native.Nat.{ℕ, _^_, _<_}
 use native.Mathlib.Omega.{arith}
-use mathlib.Core.Path.{_≡_, refl, _∙_, sym, ap, subst}
-use mathlib.Core.Bool.{Bool, true, false}
+use mathlib.Core.Path.{_≡_, refl, _∙_, sym, ap}
 use mathlib.Core.List.{List, [], _∷_}
-use lib.Dec.{T, ltb, ltb→lt}
-use lib.ListN.{length, getD, List·getD-eq-default}
-use borrow.Author.Tests.{ltb-true, ltb-false}
+use lib.Dec.{T, ltb}
+use lib.ListN.{length, getD}
 use Rattle.basics.specs.Ascii.{ascii}
-use Rattle.basics.proofs.Every.{every, every-at}
+use Rattle.basics.proofs.Bytes.{all-below}
+use Rattle.basics.proofs.Every.{every}
 use Rattle.jvms.specs.Format.{formatOf}
 use Rattle.bytecode.specs.Length.{bytesOf, fixedLength, within, lengthOf}
 use Rattle.leader.specs.Greatest.{upTo, greatest}
@@ -56,19 +55,6 @@ small-cases =
     }
 
 -- ---- what can be lent
-
--- every number of a list is below a limit, as a computed test finds
-pub all-below :
-    (limit : ℕ) (xs : List ℕ) → T (ltb 0 limit) → T (every (λ i. ltb (getD xs i 0) limit) (length xs)) →
-    (i : ℕ) → getD xs i 0 < limit
-all-below limit xs some t i = by-place (ltb i (length xs)) refl
-  where
-    by-place : (b : Bool) → ltb i (length xs) ≡ b → getD xs i 0 < limit
-    by-place true e =
-        ltb→lt (getD xs i 0) limit
-        (every-at (λ k. ltb (getD xs k 0) limit) (length xs) t i (ltb-true i (length xs) e))
-    by-place false e =
-        subst (λ (x : ℕ). x < limit) (sym (List·getD-eq-default xs 0 (ltb-false i (length xs) e))) (ltb→lt 0 limit some)
 
 -- a stack of one cell
 abbrev cell : List ℕ

@@ -30,7 +30,7 @@ use Rattle.fault.specs.declared.Fault.the-variants.{Failed, Nothing}
 use Rattle.message.specs.Message.{causeText, messageText}
 use Rattle.report.specs.Report.{messageOf, Said, silent, roomless, said, saidOf, needed, answerBy, outputBy, reportOf, reportedIn}
 use Rattle.report.specs.declared.Report.the-variants.{Message, NoOutput}
-use Rattle.truth.specs.Condition.{Report, Premises}
+use Rattle.truth.specs.Condition.{Findings, Premises}
 use Rattle.truth.specs.Translation.{since}
 use Rattle.truth.proofs.Cause.{cause-true}
 use Rattle.truth.proofs.Condition.{condition-3}
@@ -90,7 +90,7 @@ shown-at room slots k below =
 module _ (p : Parts) (pool : Pool) (room : ℕ) (message : List ℕ) (scan block : ℕ) (bytes : AreBytes (p .code))
     (described : WellDescribed p pool) (c : Caused p room message scan block) where
   -- what condition 3 is asked of
-  abbrev asked : Report
+  abbrev asked : Findings
   asked =
       record {
         code = p .code;

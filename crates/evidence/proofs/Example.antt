@@ -3,6 +3,7 @@
 use Prim.Native.Nat.{ℕ, zero, suc, _≤_}
 use native.Mathlib.Omega.{arith}
 use mathlib.Core.Path.{_≡_, refl}
+use Rattle.basics.proofs.Bytes.{all-below}
 use Rattle.jvms.specs.Machine.{Pool}
 use Rattle.casefile.specs.Layout.{membersThen, recordsThen, runBy}
 use Rattle.casefile.specs.Number.{numberFrom, numberAt}
@@ -14,7 +15,7 @@ use Rattle.effects.specs.Lookup.{lookupIn}
 use Rattle.truth.specs.Condition.{Described}
 use Rattle.evidence.specs.Constant.{reading, blank}
 use Rattle.evidence.specs.Example.{places, NamedByEvidence}
-use Rattle.evidence.proofs.Constant.{all-below, small-cases}
+use Rattle.evidence.proofs.Constant.{small-cases}
 use Rattle.evidence.proofs.Evidence.{report-is-evidence}
 
 lies : caseOf reading ≡ cases.Parts places

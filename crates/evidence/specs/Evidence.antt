@@ -31,7 +31,7 @@ use Rattle.message.specs.Message.{actionText}
 use Rattle.report.specs.Report.{isInstance, said, saidOf, reportOf, reportedIn}
 use Rattle.report.specs.declared.Report.the-variants.{Message}
 use Rattle.truth.specs.Condition.{InBlock, Described}
-use Rattle.truth.specs.Translation.{since, Loaded}
+use Rattle.truth.specs.Translation.{since, HeldWhen}
 
 -- ---- what is supposed
 
@@ -50,7 +50,7 @@ pub record Proven {Val : Type 0} (p : Parts) (pool : Pool) (machine : ℕ → St
   pub reached : machine block .pc ≡ p .fault
   pub value : Val
   pub dereferenced : target pool (p .code) (machine block) ≡ value ∷ []
-  pub loaded : Loaded machine block load local value
+  pub loaded : HeldWhen machine block load local value
 
 pub record Evidence (p : Parts) (pool : Pool) (message : List ℕ) (scan block : ℕ) : Type 1 where
   pub action : Action

@@ -1,3 +1,4 @@
+pub mod ByName
 pub mod Copy
 pub mod Entries
 pub mod Forms

@@ -1,4 +1,5 @@
 pub mod Branch
+pub mod ByName
 pub mod Descriptor
 pub mod Extent
 pub mod Format

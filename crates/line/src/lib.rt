@@ -3,7 +3,8 @@ use report::Report;
 use text::put_at;
 use text::put_decimal_at;
 ghost use Rattle.text.specs.Writing.{Written};
-ghost use Rattle.line.specs.Head.{carried, spaced, counted, headText};
+ghost use Rattle.line.specs.Head.{spaced, headText};
+ghost use Rattle.line.specs.Pieces.{carried, counted};
 
 // Writes an answer that carries a number.
 fn put_carried_at(out: &mut [u8], at: usize, answer: &[u8], n: usize) -> usize

@@ -4,12 +4,11 @@ use Prim.Native.Nat.{ℕ, _≤_, _<_, min}
 use native.Mathlib.Nat.{zero-add}
 use native.Mathlib.Omega.{arith}
 use mathlib.Core.List.{List, []}
-use mathlib.Core.Path.{_≡_, refl, _∙_, ap}
+use mathlib.Core.Path.{_≡_, _∙_, ap}
 use lib.ListN.{length}
 use borrow.Author.Tests.{le-leb, lt-leb}
-use Rattle.report.specs.Report.{said, needed, answerBy, outputBy}
+use Rattle.report.specs.Report.{said, needed, Delivered}
 use Rattle.report.specs.declared.Report.the-variants.{Message, NoOutput}
-use Rattle.report.specs.declared.Report.{Report}
 use Rattle.text.specs.Writing.{most, splice, following, Written}
 
 module _ (message : List ℕ) (kind scan block : ℕ) (out : List ℕ) where
@@ -17,21 +16,23 @@ module _ (message : List ℕ) (kind scan block : ℕ) (out : List ℕ) where
   unfolding following
   measured size after w = w .place ∙ ap (λ (k : ℕ). min k most) (zero-add (length message))
 
-  abbrev pub Ends : Report → List ℕ → Type 0
-  Ends answer left =
-      (answer ≡ answerBy (said message kind scan block) (length out)) × (left ≡ outputBy (said message kind scan block) out)
-
-  pub no-room : (size : ℕ) (after : List ℕ) → Written 0 message [] size after → length out < size → Ends (NoOutput size) out
+  pub no-room : (size : ℕ) (after : List ℕ) → Written 0 message [] size after → length out < size →
+      Delivered (said message kind scan block) out (NoOutput size) out
   no-room size after w more =
       let e : size ≡ min (length message) most = measured size after w in
-      rw (lt-leb (length message) (length out) (omega arith)) (ap NoOutput e, refl)
+      let left = lt-leb (length message) (length out) (omega arith) in
+      record { answers = rw left (ap NoOutput e); leaves = rw left }
 
   pub room :
       (size : ℕ) (after : List ℕ) → Written 0 message [] size after → length out < most → size ≤ length out →
-      (end : ℕ) (left : List ℕ) → Written 0 message out end left → Ends (Message size kind scan block) left
+      (end : ℕ) (left : List ℕ) → Written 0 message out end left →
+      Delivered (said message kind scan block) out (Message size kind scan block) left
   unfolding splice
   room size after w small fits end left written =
       let e : size ≡ min (length message) most = measured size after w in
       let whole : size ≡ length message = omega arith in
-      rw (le-leb (length message) (length out) (omega arith))
-      (ap (λ (k : ℕ). Message k kind scan block) whole, written .bytes)
+      let taken = le-leb (length message) (length out) (omega arith) in
+      record {
+        answers = rw taken (ap (λ (k : ℕ). Message k kind scan block) whole);
+        leaves = rw taken (written .bytes);
+      }

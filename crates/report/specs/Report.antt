@@ -3,6 +3,7 @@
 use Prim.Native.Nat.{ℕ, _/_, _%_, min}
 use mathlib.Core.Bool.{Bool}
 use mathlib.Core.List.{List, [], _∷_}
+use mathlib.Core.Path.{_≡_}
 use lib.Dec.{eqb, leb}
 use lib.ListN.{length}
 use Rattle.basics.specs.Choice.{pick}
@@ -86,6 +87,11 @@ abbrev pub outputBy : Said → List ℕ → List ℕ
 outputBy silent out = out
 outputBy (roomless index) out = out
 outputBy (said message kind scan block) out = pick (leb (length message) (length out)) (over message out) out
+
+-- what is said goes to the output: the answer, and what the output holds afterwards
+pub record Delivered (what : Said) (out : List ℕ) (answer : Report) (left : List ℕ) : Type 0 where
+  pub answers : answer ≡ answerBy what (length out)
+  pub leaves : left ≡ outputBy what out
 
 -- ---- a whole case: "Tested in the order 5, 2, 1, 3, 4."
 

@@ -17,7 +17,7 @@ ghost use Rattle.block.specs.Cells.{unpacked};
 ghost use Rattle.block.specs.Room.{blockWalk};
 ghost use Rattle.block.specs.declared.Slot.the-variants.{Other};
 ghost use Rattle.message.specs.Message.{messageText};
-ghost use Rattle.report.specs.Report.{isInstance, kindOf, partsBy, said, saidOf, answerBy, outputBy, reportOf, reportedIn};
+ghost use Rattle.report.specs.Report.{isInstance, kindOf, partsBy, said, saidOf, Delivered, reportOf, reportedIn};
 ghost use Rattle.report.specs.Trace.{traceOf, traced};
 
 // What a report answers, by document 01's numbers 0 to 5.
@@ -150,8 +150,10 @@ fn write_message(
     scan: usize,
     block: usize,
 ) -> Report
-    ensures answers { λ r. ⌜ r ≡ answerBy (said (messageText (now (members .entry)) «member_count» action cause (now (records .entry)) «record_count» (now (signature .entry)) instance) (kindOf cause) scan block) (length (now (out .entry))) ⌝ }
-    ensures leaves { λ r. ⌜ now (out .exit) ≡ outputBy (said (messageText (now (members .entry)) «member_count» action cause (now (records .entry)) «record_count» (now (signature .entry)) instance) (kindOf cause) scan block) (now (out .entry)) ⌝ }
+    ensures { λ r. ⌜ Delivered
+        (said (messageText (now (members .entry)) «member_count» action cause (now (records .entry)) «record_count»
+        (now (signature .entry)) instance) (kindOf cause) scan block)
+        (now (out .entry)) r (now (out .exit)) ⌝ }
 {
     let mut none = [0u8; 0];
     let needed = put_message_at(
@@ -209,8 +211,10 @@ pub fn report_parts(
     stack: &mut [u64],
     out: &mut [u8],
 ) -> Report
-    ensures answers { λ r. ⌜ r ≡ answerBy (saidOf (partsBy flags at (now (code .entry)) (now (signature .entry)) (now (members .entry)) «member_count» (now (records .entry)) «record_count») (length (now (stack .entry)))) (length (now (out .entry))) ⌝ }
-    ensures leaves { λ r. ⌜ now (out .exit) ≡ outputBy (saidOf (partsBy flags at (now (code .entry)) (now (signature .entry)) (now (members .entry)) «member_count» (now (records .entry)) «record_count») (length (now (stack .entry)))) (now (out .entry)) ⌝ }
+    ensures delivers { λ r. ⌜ Delivered
+        (saidOf (partsBy flags at (now (code .entry)) (now (signature .entry)) (now (members .entry)) «member_count»
+        (now (records .entry)) «record_count») (length (now (stack .entry))))
+        (now (out .entry)) r (now (out .exit)) ⌝ }
     ensures clears { λ r. ⌜ now (stack .exit) ≡ replicate (length (now (stack .entry))) 0 ⌝ }
 {
     let Fault::Failed { action, depth } = fault::decode_fault(code, members, member_count, at)

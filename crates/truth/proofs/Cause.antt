@@ -11,14 +11,14 @@ use Rattle.truth.specs.Translation.{since}
 use Rattle.truth.proofs.Condition.{slots-tall, condition-3}
 
 pub cause-true : CauseTrue
-cause-true r pool p depth b n e enough small marked Val opaque entering locals =
-    let c = condition-3 r pool p in
+cause-true f pool p depth b n e enough small marked Val opaque entering locals =
+    let c = condition-3 f pool p in
     let t = c .translated Val opaque entering locals in
-    let k : ℕ = r .height - 1 - depth in
+    let k : ℕ = f .height - 1 - depth in
     let absent : Val = locals 0 in
-    let here : getD (take (r .height) (r .stack)) k 0 ≡ cellOf b n =
-    getD-take (r .height) (r .stack) k 0 (omega arith) ∙ marked in (
-      getD (since pool (r .code) opaque (r .leader) entering locals (r .count) .stack) (length entering + k) absent,
+    let here : getD (take (f .height) (f .stack)) k 0 ≡ cellOf b n =
+    getD-take (f .height) (f .stack) k 0 (omega arith) ∙ marked in (
+      getD (since pool (f .code) opaque (f .leader) entering locals (f .count) .stack) (length entering + k) absent,
       c .verySlot Val opaque entering locals absent depth e enough,
-      t .holds k b n absent (omega (arith, slots-tall r pool p)) small here,
+      t .holds k b n absent (omega (arith, slots-tall f pool p)) small here,
     )

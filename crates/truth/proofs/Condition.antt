@@ -15,9 +15,9 @@ use Rattle.effects.specs.Rows.{rowOf}
 use Rattle.effects.proofs.Rows.{rows-agree}
 use Rattle.block.specs.Room.{completed, blockWalk}
 use Rattle.block.specs.Walk.{cells, cellOf, walk}
-use Rattle.truth.specs.Condition.{Described, Report, Premises, Condition3}
+use Rattle.truth.specs.Condition.{Described, Findings, Premises, Condition3}
 use Rattle.truth.specs.Relation.{Setting, Speaks, Given, Translated}
-use Rattle.truth.specs.Translation.{since, Loaded, Translates}
+use Rattle.truth.specs.Translation.{since, HeldWhen, Translates}
 use Rattle.truth.proofs.Cell.{cell-injective, no-load-is-zero}
 use Rattle.truth.proofs.Held.{same-length, held-at}
 use Rattle.truth.proofs.Room.{Fitted, fitted}
@@ -26,38 +26,38 @@ use Rattle.truth.proofs.Walked.{walk-translates}
 
 -- ---- a report
 
-module _ (r : Report) (pool : Pool) (p : Premises r pool) where
+module _ (f : Findings) (pool : Pool) (p : Premises f pool) where
   abbrev lookup : Lookup
-  lookup = lookupIn (r .members) (r .memberCount)
+  lookup = lookupIn (f .members) (f .memberCount)
 
   -- the walk without room
   fits :
-      Fitted (p .room) (completed cells rowOf lookup (r .code) (r .fault) (r .leader))
-      (walk cells rowOf lookup (r .code) (r .fault) (r .leader)) (r .height) (r .count)
+      Fitted (p .room) (completed cells rowOf lookup (f .code) (f .fault) (f .leader))
+      (walk cells rowOf lookup (f .code) (f .fault) (f .leader)) (f .height) (f .count)
   unfolding blockWalk
-  fits = fitted (p .room) _ _ (r .height) (r .count) (p .walked)
+  fits = fitted (p .room) _ _ (f .height) (f .count) (p .walked)
 
   -- the slots that are reported are the walk's
-  slots-are : take (r .height) (r .stack) ≡ fits .slots
+  slots-are : take (f .height) (f .stack) ≡ fits .slots
   unfolding blockWalk
-  slots-are = ap (take (r .height)) (p .left) ∙ fits .shows
+  slots-are = ap (take (f .height)) (p .left) ∙ fits .shows
 
-  pub slots-tall : length (take (r .height) (r .stack)) ≡ r .height
+  pub slots-tall : length (take (f .height) (f .stack)) ≡ f .height
   slots-tall = ap length slots-are ∙ sym (fits .tall)
 
   -- ---- a machine
 
   module _ (Val : Type 0) (opaque : ℕ → ℕ → Val) (entering : List Val) (locals : ℕ → Val) where
     abbrev states : ℕ → State Val
-    states = since pool (r .code) opaque (r .leader) entering locals
+    states = since pool (f .code) opaque (f .leader) entering locals
 
     -- a cell that marks a load says what the local held then
     abbrev setting : Setting ℕ Val
     setting =
         record {
-          code = r .code;
-          leader = r .leader;
-          fault = r .fault;
+          code = f .code;
+          leader = f .leader;
+          fault = f .fault;
           lookup = lookup;
           rows = rowOf;
           marks = cells;
@@ -65,13 +65,13 @@ module _ (r : Report) (pool : Pool) (p : Premises r pool) where
           opaque = opaque;
           entering = entering;
           locals = locals;
-          Says = λ cell v. (b n : ℕ) → n < 256 → cell ≡ cellOf b n → Loaded states (r .count) b n v;
+          Says = λ cell v. (b n : ℕ) → n < 256 → cell ≡ cellOf b n → HeldWhen states (f .count) b n v;
         }
 
     given : Given setting
     given = record { agrees = rows-agree; bytes = p .bytes; inside = p .inside; described = p .described }
 
-    speaks : (j : ℕ) → j < r .count → Speaks setting (states j)
+    speaks : (j : ℕ) → j < f .count → Speaks setting (states j)
     speaks j early =
         record {
           made = λ k b n small e. absurd (no-load-is-zero b n (sym e));
@@ -80,10 +80,10 @@ module _ (r : Report) (pool : Pool) (p : Premises r pool) where
               record { turn = j; ran = early; there = same .0; held = ap (λ (i : ℕ). states j .locals i) (same .1) };
         }
 
-    translated : Translated setting (fits .slots) (r .count)
-    translated = walk-translates ℕ Val setting given (fits .slots) (r .count) (fits .succeeds) speaks
+    translated : Translated setting (fits .slots) (f .count)
+    translated = walk-translates ℕ Val setting given (fits .slots) (f .count) (fits .succeeds) speaks
 
-    one-each : length (states (r .count) .stack) ≡ length entering + length (fits .slots)
+    one-each : length (states (f .count) .stack) ≡ length entering + length (fits .slots)
     one-each =
         ap length (translated .untouched) ∙ length-append entering (translated .above)
         ∙ ap (λ (n : ℕ). length entering + n) (sym (same-length (translated .held)))
@@ -91,12 +91,12 @@ module _ (r : Report) (pool : Pool) (p : Premises r pool) where
     -- the value above the entering stack that stands for a slot
     value-of :
         (k : ℕ) (absent : Val) →
-        getD (translated .above) k absent ≡ getD (states (r .count) .stack) (length entering + k) absent
+        getD (translated .above) k absent ≡ getD (states (f .count) .stack) (length entering + k) absent
     value-of k absent =
         sym (ap (λ (l : List Val). getD l (length entering + k) absent) (translated .untouched)
         ∙ getD-append-add entering (translated .above) k absent)
 
-    translates : Translates states (r .fault) entering (fits .slots) (r .count)
+    translates : Translates states (f .fault) entering (fits .slots) (f .count)
     translates =
         record {
           reached = translated .reached;
@@ -104,30 +104,30 @@ module _ (r : Report) (pool : Pool) (p : Premises r pool) where
           untouched = ap (take (length entering)) (translated .untouched) ∙ take-append-seam entering (translated .above);
           oneEach = one-each;
           holds = λ k b n absent inside small e.
-              subst (λ (v : Val). Loaded states (r .count) b n v) (value-of k absent)
+              subst (λ (v : Val). HeldWhen states (f .count) b n v) (value-of k absent)
               (held-at (translated .held) k inside 0 absent b n small e);
         }
 
     -- a depth from the top of the stack is one from the top of the slots
     very :
-        (absent : Val) (depth : ℕ) → depthOf lookup (r .code) (r .fault) ≡ at depth → depth < r .height →
-        target pool (r .code) (states (r .count))
-        ≡ getD (states (r .count) .stack) (length entering + (r .height - 1 - depth)) absent ∷ []
+        (absent : Val) (depth : ℕ) → depthOf lookup (f .code) (f .fault) ≡ at depth → depth < f .height →
+        target pool (f .code) (states (f .count))
+        ≡ getD (states (f .count) .stack) (length entering + (f .height - 1 - depth)) absent ∷ []
     very absent depth e enough =
-        let st : State Val = states (r .count) in
-        let size : length (st .stack) ≡ length entering + r .height = omega (arith, one-each, fits .tall) in
-        let there : length (st .stack) - 1 - depth ≡ length entering + (r .height - 1 - depth) = omega (arith, size) in
-        let told : Described lookup pool (r .code) (st .pc) =
-        rw (translated .reached) (p .described (r .fault) (translated .inBlock) (omega arith)) in
-        very-slot lookup pool (r .code) (p .bytes) st told depth absent (rw (translated .reached) e) (omega (arith, size))
+        let st : State Val = states (f .count) in
+        let size : length (st .stack) ≡ length entering + f .height = omega (arith, one-each, fits .tall) in
+        let there : length (st .stack) - 1 - depth ≡ length entering + (f .height - 1 - depth) = omega (arith, size) in
+        let told : Described lookup pool (f .code) (st .pc) =
+        rw (translated .reached) (p .described (f .fault) (translated .inBlock) (omega arith)) in
+        very-slot lookup pool (f .code) (p .bytes) st told depth absent (rw (translated .reached) e) (omega (arith, size))
         ∙ ap (λ (k : ℕ). getD (st .stack) k absent ∷ []) there
 
 pub condition-3 : Condition3
-condition-3 r pool p =
+condition-3 f pool p =
     record {
-      translated = λ Val opaque entering locals. rw (slots-are r pool p) (translates r pool p Val opaque entering locals);
-      verySlot = very r pool p;
+      translated = λ Val opaque entering locals. rw (slots-are f pool p) (translates f pool p Val opaque entering locals);
+      verySlot = very f pool p;
       nothingLands = λ pc x reached lands above below.
-          nothing-lands-between document-rule [] (r .code) (p .bytes) (r .fault) (r .leader) (p .scan) (p .inside)
+          nothing-lands-between document-rule [] (f .code) (p .bytes) (f .fault) (f .leader) (p .scan) (p .inside)
           (p .measured) pc x reached lands (omega arith) below;
     }

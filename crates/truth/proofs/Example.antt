@@ -5,10 +5,11 @@ use native.Mathlib.Omega.{arith}
 use mathlib.Core.Path.{_≡_, refl, _∙_, sym, ap, subst}
 use mathlib.Core.Bool.{Bool, true}
 use mathlib.Core.List.{List, [], _∷_}
-use lib.Dec.{T, eqb, ltb, eqb→eq, ltb→lt, lit<, lit≤}
-use Rattle.basics.specs.Bytes.{byteAt, u16At, AreBytes}
-use Rattle.basics.specs.Choice.{both, between}
-use Rattle.basics.proofs.Every.{both-first, both-second, every, every-at}
+use lib.Dec.{T, eqb, eqb→eq, lit<, lit≤}
+use Rattle.basics.specs.Bytes.{byteAt, u16At}
+use Rattle.basics.specs.Choice.{between}
+use Rattle.basics.proofs.Bytes.{all-below}
+use Rattle.basics.proofs.Every.{every, every-at}
 use Rattle.jvms.specs.Descriptor.{long, base, render, renderReturn, renderAll, renderMethod, WellFormed, WellFormedMethod}
 use Rattle.jvms.specs.Format.{formatOf}
 use Rattle.bytecode.specs.Length.{bytesOf, fixedLength, within, lengthOf}
@@ -31,33 +32,23 @@ use Rattle.effects.proofs.Rows.{whereAsked, asked}
 use Rattle.block.specs.Room.{completedFrom, completed, fits, blockWalk, answerOf, cellsOf}
 use Rattle.block.specs.Walk.{done, step, walkFrom, walk}
 use Rattle.truth.specs.Condition.{Described}
-use Rattle.truth.specs.Example.{report, pool, PremisesMet, NamedRightly}
+use Rattle.truth.specs.Example.{worked, pool, PremisesMet, NamedRightly}
 use Rattle.truth.proofs.Cause.{cause-true}
 
--- every number of a list is a byte
-abbrev allBytes : List ℕ → Bool
-allBytes [] = true
-allBytes (x ∷ xs) = both (ltb x 256) (allBytes xs)
-
-are-bytes : (xs : List ℕ) → T (allBytes xs) → AreBytes xs
-are-bytes [] t i = lit< tt
-are-bytes (x ∷ xs) t zero = ltb→lt x 256 (both-first (ltb x 256) _ t)
-are-bytes (x ∷ xs) t (suc i) = are-bytes xs (both-second (ltb x 256) _ t) i
-
-leads : blockLeader lengthOf [] (report .code) 11 ≡ Leader 0 9
+leads : blockLeader lengthOf [] (worked .code) 11 ≡ Leader 0 9
 unfolding blockLeader instructions scanFrom scanCount leadersOf leadersAt kindOf answered greatest upTo lengthOf within bytesOf formatOf
 leads = refl
 
 -- the members are found
-field-known : lookupIn (report .members) 2 0 1 ≡ known (74 ∷ [])
+field-known : lookupIn (worked .members) 2 0 1 ≡ known (74 ∷ [])
 unfolding lookupIn memberFound memberAt numberAt numberFrom runBy textAt textPart afterText descriptorOf
 field-known = refl
 
-method-known : lookupIn (report .members) 2 1 2 ≡ known (40 ∷ 73 ∷ 41 ∷ 86 ∷ [])
+method-known : lookupIn (worked .members) 2 1 2 ≡ known (40 ∷ 73 ∷ 41 ∷ 86 ∷ [])
 unfolding lookupIn memberFound memberAt numberAt numberFrom runBy textAt textPart afterText descriptorOf
 method-known = refl
 
-walks : blockWalk (report .code) (report .members) 2 0 11 4 ≡ fits (done (1 ∷ 0 ∷ []) 7)
+walks : blockWalk (worked .code) (worked .members) 2 0 11 4 ≡ fits (done (1 ∷ 0 ∷ []) 7)
 unfolding blockWalk completed completedFrom walk walkFrom step rowOf fixedLength formatOf u16At lookupIn memberFound memberAt numberAt numberFrom runBy textAt textPart afterText descriptorOf slotsOf judged parameters closing slotsBehind returnSlots fieldSlots firstIn firstFrom brackets typeBehind fieldTypeAt typeSlots typesFrom typesAt typesOf
 walks = refl
 
@@ -65,15 +56,15 @@ walks = refl
 
 -- among the indexes up to the fault, an opcode of a range stands at one place only
 only-at :
-    (low high place : ℕ) → T (every (λ k. whereAsked (between low high (byteAt (report .code) k)) (eqb k place)) 12) →
-    (pc : ℕ) → pc ≤ 11 → T (between low high (byteAt (report .code) pc)) → pc ≡ place
+    (low high place : ℕ) → T (every (λ k. whereAsked (between low high (byteAt (worked .code) k)) (eqb k place)) 12) →
+    (pc : ℕ) → pc ≤ 11 → T (between low high (byteAt (worked .code) pc)) → pc ≡ place
 only-at low high place t pc below here =
-    let test : ℕ → Bool = λ k. whereAsked (between low high (byteAt (report .code) k)) (eqb k place) in
+    let test : ℕ → Bool = λ k. whereAsked (between low high (byteAt (worked .code) k)) (eqb k place) in
     eqb→eq pc place
-    (asked (between low high (byteAt (report .code) pc)) (eqb pc place) here (every-at test 12 t pc (omega arith)))
+    (asked (between low high (byteAt (worked .code) pc)) (eqb pc place) here (every-at test 12 t pc (omega arith)))
 
 field-well :
-    (d : List ℕ) → lookupIn (report .members) 2 0 (u16At (report .code) 3) ≡ known d →
+    (d : List ℕ) → lookupIn (worked .members) 2 0 (u16At (worked .code) 3) ≡ known d →
     (d ≡ render (base long)) × WellFormed (base long)
 unfolding render u16At
 field-well d e =
@@ -81,7 +72,7 @@ field-well d e =
     (cc, record { named = tt; shallow = lit≤ tt })
 
 method-well :
-    (d : List ℕ) → lookupIn (report .members) 2 1 (u16At (report .code) 12) ≡ known d →
+    (d : List ℕ) → lookupIn (worked .members) 2 1 (u16At (worked .code) 12) ≡ known d →
     (d ≡ renderMethod (pool .method 2)) × WellFormedMethod (pool .method 2) × (occurs 41 d ≡ 1)
 unfolding renderMethod renderAll renderReturn render u16At
 method-well d e =
@@ -89,7 +80,7 @@ method-well d e =
     let text : d ≡ 40 ∷ 73 ∷ 41 ∷ 86 ∷ [] = cc in
     (text, record { parameters = (record { named = tt; shallow = lit≤ tt }, tt); result = tt }, ap (occurs 41) text)
 
-described : (pc : ℕ) → pc ≤ 11 → Described (lookupIn (report .members) 2) pool (report .code) pc
+described : (pc : ℕ) → pc ≤ 11 → Described (lookupIn (worked .members) 2) pool (worked .code) pc
 described pc below =
     record {
       field = λ t. subst (λ (k : ℕ). FieldTold k) (sym (only-at 178 181 2 tt pc below t)) field-well;
@@ -98,12 +89,12 @@ described pc below =
   where
     FieldTold : ℕ → Type 0
     FieldTold k =
-        (d : List ℕ) → lookupIn (report .members) 2 0 (u16At (report .code) (k + 1)) ≡ known d →
+        (d : List ℕ) → lookupIn (worked .members) 2 0 (u16At (worked .code) (k + 1)) ≡ known d →
         (d ≡ render (base long)) × WellFormed (base long)
 
     MethodTold : ℕ → Type 0
     MethodTold k =
-        (d : List ℕ) → lookupIn (report .members) 2 1 (u16At (report .code) (k + 1)) ≡ known d →
+        (d : List ℕ) → lookupIn (worked .members) 2 1 (u16At (worked .code) (k + 1)) ≡ known d →
         (d ≡ renderMethod (pool .method 2)) × WellFormedMethod (pool .method 2) × (occurs 41 d ≡ 1)
 
 -- ---- the premises, and the cause
@@ -111,7 +102,7 @@ described pc below =
 pub premises-met : PremisesMet
 premises-met =
     record {
-      bytes = are-bytes (report .code) tt;
+      bytes = all-below 256 (worked .code) tt tt;
       scan = 9;
       measured = leads;
       inside = lit< tt;
@@ -121,9 +112,9 @@ premises-met =
       described = λ pc here below. described pc below;
     }
 
-deep : depthOf (lookupIn (report .members) 2) (report .code) 11 ≡ at 1
+deep : depthOf (lookupIn (worked .members) 2) (worked .code) 11 ≡ at 1
 unfolding depthOf ruleOf u16At lookupIn memberFound memberAt numberAt numberFrom runBy textAt textPart afterText descriptorOf slotsOf judged parameters firstIn firstFrom brackets typeBehind fieldTypeAt typeSlots typesFrom typesAt typesOf
 deep = refl
 
 pub named-rightly : NamedRightly
-named-rightly = cause-true report pool premises-met 1 0 0 deep (lit< tt) (lit< tt) refl
+named-rightly = cause-true worked pool premises-met 1 0 0 deep (lit< tt) (lit< tt) refl

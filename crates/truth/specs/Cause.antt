@@ -1,35 +1,50 @@
--- What condition 3 says of a cause, and that it has force.
+-- What condition 3 says of a cause, and that it has force: wrong slot lists that are shut out (document 01, "Contracts").
 -- Assumes nothing.
 use Prim.Native.Nat.{ℕ, _-_, _<_}
 use mathlib.Core.Path.{_≡_}
 use mathlib.Core.List.{List, [], _∷_}
-use lib.ListN.{getD}
+use lib.ListN.{length, getD}
 use Rattle.jvms.specs.Machine.{Pool, target}
 use Rattle.effects.specs.Depth.{depthOf, at}
 use Rattle.effects.specs.Lookup.{lookupIn}
-use Rattle.block.specs.Room.{blockWalk, fits}
+use Rattle.block.specs.Room.{blockWalk, cellsOf, fits}
 use Rattle.block.specs.Walk.{cellOf, done}
-use Rattle.truth.specs.Condition.{Report, Premises}
-use Rattle.truth.specs.Translation.{since, Loaded, TrueTranslation}
+use Rattle.truth.specs.Condition.{Findings, Premises}
+use Rattle.truth.specs.Translation.{since, HeldWhen, TrueTranslation}
 
 -- Where the slot at the depth is a load of local n at index b, the value that the faulting instruction would dereference is what
 -- n held when b ran.
 abbrev pub CauseTrue : Type 1
 CauseTrue =
-    (r : Report) (pool : Pool) → Premises r pool → (depth b n : ℕ) →
-    depthOf (lookupIn (r .members) (r .memberCount)) (r .code) (r .fault) ≡ at depth → depth < r .height → n < 256 →
-    getD (r .stack) (r .height - 1 - depth) 0 ≡ cellOf b n →
+    (f : Findings) (pool : Pool) → Premises f pool → (depth b n : ℕ) →
+    depthOf (lookupIn (f .members) (f .memberCount)) (f .code) (f .fault) ≡ at depth → depth < f .height → n < 256 →
+    getD (f .stack) (f .height - 1 - depth) 0 ≡ cellOf b n →
     (Val : Type 0) (opaque : ℕ → ℕ → Val) (entering : List Val) (locals : ℕ → Val) →
-    (v : Val) × (target pool (r .code) (since pool (r .code) opaque (r .leader) entering locals (r .count)) ≡ v ∷ [])
-    × Loaded (since pool (r .code) opaque (r .leader) entering locals) (r .count) b n v
+    (v : Val) × (target pool (f .code) (since pool (f .code) opaque (f .leader) entering locals (f .count)) ≡ v ∷ [])
+    × HeldWhen (since pool (f .code) opaque (f .leader) entering locals) (f .count) b n v
 
--- a block of one instruction and its slot list, and that another list is no true translation of it, whatever the pool
-pub record Refuted (code slots wrong : List ℕ) : Type 1 where
-  pub walked : blockWalk code [] 0 0 1 1 ≡ fits (done slots 1)
-  pub untrue : (pool : Pool) → TrueTranslation code pool 0 1 wrong 1 → ⊥
+-- ---- force
+
+-- A block with no members, from 0 to a fault, in so many instructions; and the slot list that its walk leaves.
+abbrev pub Leaves : List ℕ → ℕ → ℕ → List ℕ → Type 0
+Leaves code fault count slots = blockWalk code [] 0 0 fault (length slots) ≡ fits (done slots count)
+
+-- another list is no true translation of it, whatever the pool: demand 3 shuts it out
+pub record Refuted (code : List ℕ) (fault count : ℕ) (slots wrong : List ℕ) : Type 1 where
+  pub walked : Leaves code fault count slots
+  pub untrue : (pool : Pool) → TrueTranslation code pool 0 fault wrong count → ⊥
+
+-- another list is not what the walk leaves in its cells: demand 2 shuts it out, where demand 3 alone would not
+pub record Unequal (code : List ℕ) (fault count : ℕ) (slots wrong : List ℕ) : Type 0 where
+  pub walked : Leaves code fault count slots
+  pub other : cellsOf (length slots) (blockWalk code [] 0 0 fault (length slots)) ≡ wrong → ⊥
 
 pub record HasForce : Type 1 where
   -- aconst_null, arraylength: its opaque slot marked as a load of local 0
-  pub opaqueMarked : Refuted (0x01 ∷ 0xbe ∷ []) (0 ∷ []) (cellOf 0 0 ∷ [])
+  pub opaqueMarked : Refuted (0x01 ∷ 0xbe ∷ []) 1 1 (0 ∷ []) (cellOf 0 0 ∷ [])
   -- aload_1, arraylength: its load's local changed to 0
-  pub localChanged : Refuted (0x2b ∷ 0xbe ∷ []) (cellOf 0 1 ∷ []) (cellOf 0 0 ∷ [])
+  pub localChanged : Refuted (0x2b ∷ 0xbe ∷ []) 1 1 (cellOf 0 1 ∷ []) (cellOf 0 0 ∷ [])
+  -- aload_0, aconst_null, arraylength, walked by a program that "walks the first instruction and .. marks [the rest] as loads"
+  pub restMarked : Refuted (0x2a ∷ 0x01 ∷ 0xbe ∷ []) 2 2 (cellOf 0 0 ∷ 0 ∷ []) (cellOf 0 0 ∷ cellOf 1 0 ∷ [])
+  -- aload_0, aload_1, arraylength, walked by one that "walks the first instruction and marks the rest opaque"
+  pub restOpaque : Unequal (0x2a ∷ 0x2b ∷ 0xbe ∷ []) 2 2 (cellOf 0 0 ∷ cellOf 1 1 ∷ []) (cellOf 0 0 ∷ 0 ∷ [])

@@ -41,7 +41,7 @@ pub record Described (lookup : Lookup) (pool : Pool) (code : List ℕ) (pc : ℕ
       × WellFormedMethod (pool .method (u16At code (pc + 1))) × (occurs 41 d ≡ 1)
 
 -- the parts of a case, and what `block_leader` and `simulate_block` answer of them
-pub record Report : Type 0 where
+pub record Findings : Type 0 where
   pub code : List ℕ
   pub members : List ℕ
   pub memberCount : ℕ
@@ -53,35 +53,35 @@ pub record Report : Type 0 where
   pub stack : List ℕ
 
 -- pool: the trees whose writings are the cited descriptors
-pub record Premises (r : Report) (pool : Pool) : Type 0 where
-  pub bytes : AreBytes (r .code)
+pub record Premises (f : Findings) (pool : Pool) : Type 0 where
+  pub bytes : AreBytes (f .code)
   -- "the code is measured to its end"
   pub scan : ℕ
-  pub measured : blockLeader lengthOf [] (r .code) (r .fault) ≡ Leader (r .leader) scan
+  pub measured : blockLeader lengthOf [] (f .code) (f .fault) ≡ Leader (f .leader) scan
   -- "the fault lies in it"
-  pub inside : r .fault < length (r .code)
+  pub inside : f .fault < length (f .code)
   -- "the block walk succeeds"
   pub room : ℕ
-  pub walked : answerOf (blockWalk (r .code) (r .members) (r .memberCount) (r .leader) (r .fault) room) ≡ Done (r .height) (r .count)
-  pub left : r .stack ≡ cellsOf room (blockWalk (r .code) (r .members) (r .memberCount) (r .leader) (r .fault) room)
+  pub walked : answerOf (blockWalk (f .code) (f .members) (f .memberCount) (f .leader) (f .fault) room) ≡ Done (f .height) (f .count)
+  pub left : f .stack ≡ cellsOf room (blockWalk (f .code) (f .members) (f .memberCount) (f .leader) (f .fault) room)
   -- "the descriptors of walk and fault are well formed with one closing parenthesis per method descriptor"
   pub described :
-      (pc : ℕ) → InBlock (r .code) (r .leader) pc → pc ≤ r .fault →
-      Described (lookupIn (r .members) (r .memberCount)) pool (r .code) pc
+      (pc : ℕ) → InBlock (f .code) (f .leader) pc → pc ≤ f .fault →
+      Described (lookupIn (f .members) (f .memberCount)) pool (f .code) pc
 
-pub record Concluded (r : Report) (pool : Pool) : Type 1 where
+pub record Concluded (f : Findings) (pool : Pool) : Type 1 where
   -- "the walk's slot list is a true translation of the block"
-  pub translated : TrueTranslation (r .code) pool (r .leader) (r .fault) (take (r .height) (r .stack)) (r .count)
+  pub translated : TrueTranslation (f .code) pool (f .leader) (f .fault) (take (f .height) (f .stack)) (f .count)
   -- "A cause is drawn from the very slot that the faulting instruction would dereference."
   pub verySlot :
       (Val : Type 0) (opaque : ℕ → ℕ → Val) (entering : List Val) (locals : ℕ → Val) (absent : Val) (depth : ℕ) →
-      depthOf (lookupIn (r .members) (r .memberCount)) (r .code) (r .fault) ≡ at depth → depth < r .height →
-      target pool (r .code) (since pool (r .code) opaque (r .leader) entering locals (r .count))
-      ≡ getD (since pool (r .code) opaque (r .leader) entering locals (r .count) .stack)
-      (length entering + (r .height - 1 - depth)) absent ∷ []
+      depthOf (lookupIn (f .members) (f .memberCount)) (f .code) (f .fault) ≡ at depth → depth < f .height →
+      target pool (f .code) (since pool (f .code) opaque (f .leader) entering locals (f .count))
+      ≡ getD (since pool (f .code) opaque (f .leader) entering locals (f .count) .stack)
+      (length entering + (f .height - 1 - depth)) absent ∷ []
   -- "No scanned branch or switch lands after the leader and at or before the fault."
   pub nothingLands :
-      (pc x : ℕ) → Reached document-rule (r .code) pc → x ∈ landingsAt (r .code) pc → r .leader < x → x ≤ r .fault → ⊥
+      (pc x : ℕ) → Reached document-rule (f .code) pc → x ∈ landingsAt (f .code) pc → f .leader < x → x ≤ f .fault → ⊥
 
 abbrev pub Condition3 : Type 1
-Condition3 = (r : Report) (pool : Pool) → Premises r pool → Concluded r pool
+Condition3 = (f : Findings) (pool : Pool) → Premises f pool → Concluded f pool

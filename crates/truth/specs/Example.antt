@@ -7,11 +7,11 @@ use mathlib.Core.Path.{_≡_}
 use mathlib.Core.List.{List, [], _∷_}
 use Rattle.jvms.specs.Descriptor.{int, long, base, void}
 use Rattle.jvms.specs.Machine.{Pool, target}
-use Rattle.truth.specs.Condition.{Report, Premises}
-use Rattle.truth.specs.Translation.{since, Loaded}
+use Rattle.truth.specs.Condition.{Findings, Premises}
+use Rattle.truth.specs.Translation.{since, HeldWhen}
 
-abbrev pub report : Report
-report =
+abbrev pub worked : Findings
+worked =
     record {
       code = 0x2a ∷ 0x59 ∷ 0xb4 ∷ 0 ∷ 1 ∷ 0x58 ∷ 0x2b ∷ 0x4b ∷ 0x11 ∷ 0 ∷ 5 ∷ 0xb6 ∷ 0 ∷ 2 ∷ 0xb1 ∷ [];
       -- 1: field A.f J; 2: method A.m (I)V
@@ -29,11 +29,11 @@ abbrev pub pool : Pool
 pool = record { field = λ index. base long; method = λ index. record { parameters = base int ∷ []; result = void } }
 
 abbrev pub PremisesMet : Type 0
-PremisesMet = Premises report pool
+PremisesMet = Premises worked pool
 
 -- whatever the values, what would be dereferenced is what local 0 held when the instruction at 0 ran
 abbrev pub NamedRightly : Type 1
 NamedRightly =
     (Val : Type 0) (opaque : ℕ → ℕ → Val) (entering : List Val) (locals : ℕ → Val) →
-    (v : Val) × (target pool (report .code) (since pool (report .code) opaque 0 entering locals 7) ≡ v ∷ [])
-    × Loaded (since pool (report .code) opaque 0 entering locals) 7 0 0 v
+    (v : Val) × (target pool (worked .code) (since pool (worked .code) opaque 0 entering locals 7) ≡ v ∷ [])
+    × HeldWhen (since pool (worked .code) opaque 0 entering locals) 7 0 0 v

@@ -12,7 +12,7 @@ abbrev pub since : {Val : Type 0} → Pool → List ℕ → (ℕ → ℕ → Val
 since pool code opaque leader entering locals j = ran pool code opaque j (record { pc = leader; stack = entering; locals = locals })
 
 -- the value is "what n held when b ran": b is one of the first instructions, so many
-pub record Loaded {Val : Type 0} (machine : ℕ → State Val) (count b n : ℕ) (v : Val) : Type 0 where
+pub record HeldWhen {Val : Type 0} (machine : ℕ → State Val) (count b n : ℕ) (v : Val) : Type 0 where
   pub turn : ℕ
   pub ran : turn < count
   pub there : machine turn .pc ≡ b
@@ -29,7 +29,7 @@ pub record Translates {Val : Type 0} (machine : ℕ → State Val) (fault : ℕ)
   -- "a slot marked as a load of local n at index b holds what n held when b ran"
   pub holds :
       (k b n : ℕ) (absent : Val) → k < length slots → n < 256 → getD slots k 0 ≡ cellOf b n →
-      Loaded machine count b n (getD (machine count .stack) (length entering + k) absent)
+      HeldWhen machine count b n (getD (machine count .stack) (length entering + k) absent)
 
 -- "On a plain stack machine, from any entering stack, locals and opaque results"
 abbrev pub TrueTranslation : List ℕ → Pool → ℕ → ℕ → List ℕ → ℕ → Type 1

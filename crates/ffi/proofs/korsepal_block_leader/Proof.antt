@@ -2,6 +2,7 @@
 -- Assumes nothing.
 use mathlib.Core.Path.{sym, _∙_}
 use borrow.Author.Needs.{needs}
+use Rattle.leader.specs.Scan.{numbered}
 use Rattle.ffi.proofs.korsepal_block_leader.Statement.{statement}
 use Rattle.ffi.proofs.korsepal_block_leader.Tie as tie
 
@@ -15,9 +16,11 @@ enum-known-count : tie.Need-enum-known-count
 enum-known-count c = search needs
 
 returns : tie.Need-returns
+unfolding numbered
 returns c = rw (sym (c .before .before .before .block-leader .ensures) ∙ c .before .at .given .1)
 
 returns-2 : tie.Need-returns-2
+unfolding numbered
 returns-2 c = rw (sym (c .before .before .before .block-leader .ensures) ∙ c .before .count .given .1)
 
 pub korsepal-block-leader-spec : {M : Type 1} → statement M

@@ -3,6 +3,7 @@
 use mathlib.Core.Path.{_∙_, sym, refl}
 use borrow.Author.Needs.{needs}
 use Rattle.casefile.specs.Parts.{partsOf}
+use Rattle.report.specs.Report.{numbered}
 use Rattle.ffi.proofs.korsepal_local_name.Statement.{statement}
 use Rattle.ffi.proofs.korsepal_local_name.Tie as tie
 
@@ -31,11 +32,13 @@ write-name-requires : tie.Need-write-name-requires
 write-name-requires c κs = search needs
 
 returns : tie.Need-returns
+unfolding numbered
 returns c =
     let told = sym (c .before .before .read-case .ensures) ∙ c .enum-told .given .1 in
     (rw told refl, rw told refl)
 
 returns-2 : tie.Need-returns-2
+unfolding numbered
 returns-2 c =
     let told = sym (c .before .before .before .read-case .ensures) ∙ c .before .at .given .1 in
     (rw told refl, rw told refl)

@@ -8,6 +8,7 @@ use denote.Ref.{now}
 use borrow.Author.Needs.{needs}
 use Rattle.report.proofs.Writing as writing
 use Rattle.ffi.specs.Numbers.{listNumbers}
+use Rattle.report.specs.Report.{numbered}
 use Rattle.ffi.proofs.korsepal_parameters.Statement.{statement}
 use Rattle.ffi.proofs.korsepal_parameters.Tie as tie
 
@@ -32,11 +33,12 @@ put-params-at-requires : tie.Need-put-params-at-requires
 put-params-at-requires c κs = search needs
 
 returns-2 : tie.Need-returns-2
+unfolding numbered
 returns-2 c =
     let a = c .before .before .before .before .before .before .before .before .before .before .args in
     let read = sym (c .before .before .before .before .before .before .before .parse-method-params .ensures) ∙ c .before .before .before .before .before .slots .given .1 in
     let told = writing.no-room _ 0 0 0 (now (a .output)) _ _ (c .before .before .put-params-at .ensures) (c .if1 .taken) in
-    (rw read (ap (listNumbers (c .before .before .before .before .before .slots .given .0 .0)) (told .0)), rw read (told .1))
+    (rw read (ap (listNumbers (c .before .before .before .before .before .slots .given .0 .0)) (told .answers)), rw read (told .leaves))
 
 put-params-at-requires-2 : tie.Need-put-params-at-requires-2
 put-params-at-requires-2 c κs = search needs
@@ -45,12 +47,13 @@ same-length : tie.Need-same-length
 same-length c = search needs
 
 returns-3 : tie.Need-returns-3
+unfolding numbered
 returns-3 c =
     let a = c .before .before .before .before .before .before .before .before .before .before .before .before .before .before .args in
     let read = sym (c .before .before .before .before .before .before .before .before .before .before .before .parse-method-params .ensures) ∙ c .before .before .before .before .before .before .before .before .before .slots .given .1 in
     let small : length (now (a .output)) < 2 ^ 64 - 1 = omega arith in
     let told = writing.room _ 0 0 0 (now (a .output)) _ _ (c .before .before .before .before .before .before .put-params-at .ensures) small (omega arith) _ _ (c .before .before .put-params-at2 .ensures) in
-    (rw read (ap (listNumbers (c .before .before .before .before .before .before .before .before .before .slots .given .0 .0)) (told .0)), rw read (told .1))
+    (rw read (ap (listNumbers (c .before .before .before .before .before .before .before .before .before .slots .given .0 .0)) (told .answers)), rw read (told .leaves))
 
 pub korsepal-parameters-spec : {M : Type 1} → statement M
 korsepal-parameters-spec =

@@ -4,6 +4,7 @@ use mathlib.Core.Path.{_∙_, sym, ap, refl}
 use borrow.Author.Needs.{needs}
 use Rattle.casefile.specs.Parts.{partsOf}
 use Rattle.ffi.specs.Numbers.{walkNumbers}
+use Rattle.casefile.specs.Whole.{numbered}
 use Rattle.ffi.proofs.korsepal_walk.Statement.{statement}
 use Rattle.ffi.proofs.korsepal_walk.Tie as tie
 
@@ -41,6 +42,7 @@ same-length : tie.Need-same-length
 same-length c = search needs
 
 returns : tie.Need-returns
+unfolding numbered
 returns c =
     let clear = c .before .before in
     let told = sym (clear .before .before .before .before .read-case .ensures) ∙ clear .before .before .enum-told .given .1 in
@@ -50,6 +52,7 @@ same-length-2 : tie.Need-same-length-2
 same-length-2 c = search needs
 
 returns-2 : tie.Need-returns-2
+unfolding numbered
 returns-2 c =
     let clear = c .before .before in
     let wrong = clear .before .before .before in

@@ -1,6 +1,7 @@
 -- `ffi::report_numbers` meets its contract. One arm an answer.
 -- Assumes nothing.
 use borrow.Author.Needs.{needs}
+use Rattle.report.specs.Report.{numbered}
 use Rattle.ffi.proofs.report_numbers.Statement.{statement}
 use Rattle.ffi.proofs.report_numbers.Tie as tie
 
@@ -47,21 +48,27 @@ carried-requires-5 : tie.Need-carried-requires-5
 carried-requires-5 c κs = search needs
 
 returns : tie.Need-returns
+unfolding numbered
 returns c = rw (c .before .before .before .before .answer .given .1, c .before .before .low-bits .ensures, c .before .low-bits2 .ensures, c .low-bits3 .ensures)
 
 returns-2 : tie.Need-returns-2
+unfolding numbered
 returns-2 c = rw (c .before .enum-told .given .1) (c .carried .ensures)
 
 returns-3 : tie.Need-returns-3
+unfolding numbered
 returns-3 c = rw (c .before .before .answer2 .given .1) (c .carried2 .ensures)
 
 returns-4 : tie.Need-returns-4
+unfolding numbered
 returns-4 c = rw (c .before .before .answer3 .given .1) (c .carried3 .ensures)
 
 returns-5 : tie.Need-returns-5
+unfolding numbered
 returns-5 c = rw (c .before .before .answer4 .given .1) (c .carried4 .ensures)
 
 returns-6 : tie.Need-returns-6
+unfolding numbered
 returns-6 c = rw (c .before .enum-told2 .given .1) (c .carried5 .ensures)
 
 pub report-numbers-spec : {M : Type 1} → statement M

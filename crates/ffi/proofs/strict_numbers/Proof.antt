@@ -1,6 +1,7 @@
 -- `ffi::strict_numbers` meets its contract. One arm an answer.
 -- Assumes nothing.
 use borrow.Author.Needs.{needs}
+use Rattle.jdescriptor.specs.Answer.{numbered}
 use Rattle.ffi.proofs.strict_numbers.Statement.{statement}
 use Rattle.ffi.proofs.strict_numbers.Tie as tie
 
@@ -17,9 +18,11 @@ low-bits-requires : tie.Need-low-bits-requires
 low-bits-requires c κs = search needs
 
 returns : tie.Need-returns
+unfolding numbered
 returns c = rw (c .before .answer .given .1)
 
 returns-2 : tie.Need-returns-2
+unfolding numbered
 returns-2 c = rw (c .before .before .before .answer2 .given .1, c .low-bits .ensures, c .before .number-of .ensures)
 
 pub strict-numbers-spec : {M : Type 1} → statement M

@@ -8,6 +8,7 @@ use denote.Ref.{now}
 use borrow.Author.Needs.{needs}
 use Rattle.report.proofs.Writing as writing
 use Rattle.ffi.specs.Numbers.{nameNumbers}
+use Rattle.report.specs.Report.{numbered}
 use Rattle.ffi.proofs.write_name.Statement.{statement}
 use Rattle.ffi.proofs.write_name.Tie as tie
 
@@ -18,10 +19,11 @@ describe-local-requires : tie.Need-describe-local-requires
 describe-local-requires c κs = search needs
 
 returns : tie.Need-returns
+unfolding numbered
 returns c =
     let a = c .before .before .before .before .before .before .before .args in
     let told = writing.no-room _ 0 0 0 (now (a .out)) _ _ (c .before .before .describe-local .ensures) (c .if1 .taken) in
-    (ap nameNumbers (told .0), told .1)
+    (ap nameNumbers (told .answers), told .leaves)
 
 describe-local-requires-2 : tie.Need-describe-local-requires-2
 describe-local-requires-2 c κs = search needs
@@ -30,11 +32,12 @@ same-length : tie.Need-same-length
 same-length c = search needs
 
 returns-2 : tie.Need-returns-2
+unfolding numbered
 returns-2 c =
     let a = c .before .before .before .before .before .before .before .before .before .before .before .args in
     let small : length (now (a .out)) < 2 ^ 64 - 1 = omega arith in
     let told = writing.room _ 0 0 0 (now (a .out)) _ _ (c .before .before .before .before .before .before .describe-local .ensures) small (omega arith) _ _ (c .before .before .describe-local2 .ensures) in
-    (ap nameNumbers (told .0), told .1)
+    (ap nameNumbers (told .answers), told .leaves)
 
 pub write-name-spec : {M : Type 1} → statement M
 write-name-spec =

@@ -3,7 +3,7 @@
 use native.Mathlib.Omega.{arith}
 use borrow.Author.Needs.{needs}
 use Rattle.text.proofs.Writing.{written-then}
-use Rattle.line.specs.Head.{carried}
+use Rattle.line.specs.Pieces.{carried}
 use Rattle.line.proofs.put_carried_at.Statement.{statement}
 use Rattle.line.proofs.put_carried_at.Tie as tie
 

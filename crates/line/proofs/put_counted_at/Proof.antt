@@ -3,7 +3,7 @@
 use native.Mathlib.Omega.{arith}
 use borrow.Author.Needs.{needs}
 use Rattle.text.proofs.Writing.{written-then}
-use Rattle.line.specs.Head.{counted}
+use Rattle.line.specs.Pieces.{counted}
 use Rattle.line.proofs.put_counted_at.Statement.{statement}
 use Rattle.line.proofs.put_counted_at.Tie as tie
 

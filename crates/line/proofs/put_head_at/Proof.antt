@@ -1,7 +1,7 @@
 -- `line::put_head_at` meets its contract. One arm an answer.
 -- Assumes nothing.
 use borrow.Author.Needs.{needs}
-use Rattle.line.specs.Head.{headText}
+use Rattle.line.proofs.Heads.{head-of-message, head-of-none, head-of-broken, head-of-roomless, head-of-outless, head-of-long}
 use Rattle.line.proofs.put_head_at.Statement.{statement}
 use Rattle.line.proofs.put_head_at.Tie as tie
 
@@ -60,43 +60,37 @@ same-length : tie.Need-same-length
 same-length c = search needs
 
 returns : tie.Need-returns
-unfolding headText
-returns c = rw (c .before .before .before .before .before .answer .given .1) (c .before .before .put-counted-at .ensures)
+returns c = rw (c .before .before .before .before .before .answer .given .1, head-of-message) (c .before .before .put-counted-at .ensures)
 
 same-length-2 : tie.Need-same-length-2
 same-length-2 c = search needs
 
 returns-2 : tie.Need-returns-2
-unfolding headText
-returns-2 c = rw (c .before .before .before .before .before .enum-told .given .1) (c .before .before .put-at .ensures)
+returns-2 c = rw (c .before .before .before .before .before .enum-told .given .1, head-of-none) (c .before .before .put-at .ensures)
 
 same-length-3 : tie.Need-same-length-3
 same-length-3 c = search needs
 
 returns-3 : tie.Need-returns-3
-unfolding headText
-returns-3 c = rw (c .before .before .before .before .before .before .answer2 .given .1) (c .before .before .put-carried-at .ensures)
+returns-3 c = rw (c .before .before .before .before .before .before .answer2 .given .1, head-of-broken) (c .before .before .put-carried-at .ensures)
 
 same-length-4 : tie.Need-same-length-4
 same-length-4 c = search needs
 
 returns-4 : tie.Need-returns-4
-unfolding headText
-returns-4 c = rw (c .before .before .before .before .before .before .answer3 .given .1) (c .before .before .put-carried-at2 .ensures)
+returns-4 c = rw (c .before .before .before .before .before .before .answer3 .given .1, head-of-roomless) (c .before .before .put-carried-at2 .ensures)
 
 same-length-5 : tie.Need-same-length-5
 same-length-5 c = search needs
 
 returns-5 : tie.Need-returns-5
-unfolding headText
-returns-5 c = rw (c .before .before .before .before .before .before .answer4 .given .1) (c .before .before .put-carried-at3 .ensures)
+returns-5 c = rw (c .before .before .before .before .before .before .answer4 .given .1, head-of-outless) (c .before .before .put-carried-at3 .ensures)
 
 same-length-6 : tie.Need-same-length-6
 same-length-6 c = search needs
 
 returns-6 : tie.Need-returns-6
-unfolding headText
-returns-6 c = rw (c .before .before .before .before .before .enum-told2 .given .1) (c .before .before .put-at2 .ensures)
+returns-6 c = rw (c .before .before .before .before .before .enum-told2 .given .1, head-of-long) (c .before .before .put-at2 .ensures)
 
 pub put-head-at-spec : {M : Type 1} → statement M
 put-head-at-spec =

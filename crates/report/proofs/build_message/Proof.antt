@@ -76,9 +76,17 @@ returns-3 c =
     let code = signature .before in
     let read = code .before .before in
     let told = sym (read .before .before .read-case .ensures) ∙ read .places .given .1 in
-    rw
-    (told, ← code .part-at .ensures, ← signature .part-at2 .ensures, ← members .part-at3 .ensures, ← records .part-at4 .ensures)
-    (reported .report-parts .ensures)
+    let on = reported .report-parts .ensures in (
+      rw
+          (told, ← code .part-at .ensures, ← signature .part-at2 .ensures, ← members .part-at3 .ensures, ← records .part-at4 .ensures)
+          (on .0 .answers),
+      (
+        rw
+            (told, ← code .part-at .ensures, ← signature .part-at2 .ensures, ← members .part-at3 .ensures, ← records .part-at4 .ensures)
+            (on .0 .leaves),
+        on .1,
+      ),
+    )
 
 pub build-message-spec : {M : Type 1} → statement M
 build-message-spec =

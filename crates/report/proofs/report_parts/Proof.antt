@@ -33,7 +33,7 @@ returns c =
     let told =
     reporting.is-silent p (length (now (a .stack))) (now (a .out))
     (sym (none .before .before .decode-fault .ensures) ∙ none .enum-told .given .1) in
-    (told .0, (told .1, c .before .before .clear .ensures))
+    (told, c .before .before .clear .ensures)
 
 trace-cause-requires : tie.Need-trace-cause-requires
 trace-cause-requires c κs = search needs
@@ -64,7 +64,7 @@ returns-2 c =
     reporting.is-roomless p (length (now (a .stack))) (now (a .out)) _ _ _
     (sym (decode .before .before .decode-fault .ensures) ∙ decode .action .given .1)
     (sym (trace .trace-cause .ensures .0) ∙ c .before .index .given .1) in
-    (told .0, (told .1, trace .trace-cause .ensures .1))
+    (told, trace .trace-cause .ensures .1)
 
 same-length-3 : tie.Need-same-length-3
 same-length-3 c = search needs
@@ -85,8 +85,8 @@ returns-3 c =
     (sym (decode .before .before .decode-fault .ensures) ∙ decode .action .given .1)
     (sym (trace .trace-cause .ensures .0) ∙ traced .scan .given .1) _
     (c .before .before .before .before .is-instance .ensures) _ _
-    (c .before .before .write-message .ensures .0) (c .before .before .write-message .ensures .1) in
-    (told .0, (told .1, trace .trace-cause .ensures .1))
+    (c .before .before .write-message .ensures) in
+    (told, trace .trace-cause .ensures .1)
 
 pub report-parts-spec : {M : Type 1} → statement M
 report-parts-spec =

@@ -1,0 +1,63 @@
+-- Instructions by name, each run alone on a stack that is written out, bottom first, so that each line can be held to JVMS 6.5 at a
+-- glance. Values are any values a, b, c, d; `opaque 0 k` is the k-th slot that the instruction at 0 makes itself. proofs/ByName.antt
+-- has their proof.
+-- Assumes nothing.
+use Prim.Native.Nat.{ℕ}
+use mathlib.Core.Path.{_≡_}
+use mathlib.Core.List.{List, [], _∷_}
+use Rattle.jvms.specs.Descriptor.{FieldType, ReturnType, int, long, double, base, void, typed}
+use Rattle.jvms.specs.Machine.{Pool, State, next, target}
+
+-- a pool in which every field has one type, and every method one list of parameters and one result
+abbrev pub ofType : FieldType → List FieldType → ReturnType → Pool
+ofType t parameters result =
+    record { field = λ index. t; method = λ index. record { parameters = parameters; result = result } }
+
+-- a field I and a method (I)V; a field J and a method (IJ)D
+abbrev pub small : Pool
+small = ofType (base int) (base int ∷ []) void
+
+abbrev pub large : Pool
+large = ofType (base long) (base int ∷ base long ∷ []) (typed (base double))
+
+module _ {Val : Type 0} (opaque : ℕ → ℕ → Val) (locals : ℕ → Val) where
+  abbrev pub startingWith : List Val → State Val
+  startingWith stack = record { pc = 0; stack = stack; locals = locals }
+
+  -- the stack that the first instruction of a code leaves
+  abbrev pub leaves : Pool → List ℕ → List Val → List Val
+  leaves pool code stack = next pool code opaque (startingWith stack) .stack
+
+  -- what it would dereference
+  abbrev pub dereferences : Pool → List ℕ → List Val → List Val
+  dereferences pool code stack = target pool code (startingWith stack)
+
+pub record InstructionsByName (Val : Type 0) (opaque : ℕ → ℕ → Val) (locals : ℕ → Val) (a b c d : Val) : Type 0 where
+  -- pop: "..., value → ..."
+  pub pop : leaves opaque locals small (0x57 ∷ []) (a ∷ b ∷ []) ≡ a ∷ []
+  -- pop2: "..., value2, value1 → ..."
+  pub pop2 : leaves opaque locals small (0x58 ∷ []) (a ∷ b ∷ c ∷ []) ≡ a ∷ []
+  -- dup: "..., value → ..., value, value"
+  pub dup : leaves opaque locals small (0x59 ∷ []) (a ∷ b ∷ []) ≡ a ∷ b ∷ b ∷ []
+  -- dup2: "..., value2, value1 → ..., value2, value1, value2, value1"
+  pub dup2 : leaves opaque locals small (0x5c ∷ []) (a ∷ b ∷ c ∷ []) ≡ a ∷ b ∷ c ∷ b ∷ c ∷ []
+  -- swap: "..., value2, value1 → ..., value1, value2"
+  pub swap : leaves opaque locals small (0x5f ∷ []) (a ∷ b ∷ c ∷ []) ≡ a ∷ c ∷ b ∷ []
+  -- iaload, aaload and laload: "..., arrayref, index → ..., value"; a long has two slots
+  pub iaload : leaves opaque locals small (0x2e ∷ []) (a ∷ b ∷ c ∷ []) ≡ a ∷ opaque 0 0 ∷ []
+  pub aaload : leaves opaque locals small (0x32 ∷ []) (a ∷ b ∷ c ∷ []) ≡ a ∷ opaque 0 0 ∷ []
+  pub laload : leaves opaque locals small (0x2f ∷ []) (a ∷ b ∷ c ∷ []) ≡ a ∷ opaque 0 0 ∷ opaque 0 1 ∷ []
+  pub aaloadFrom : dereferences opaque locals small (0x32 ∷ []) (a ∷ b ∷ c ∷ []) ≡ b ∷ []
+  -- getfield: "..., objectref → ..., value", of a field I and of a field J
+  pub getfieldInt : leaves opaque locals small (0xb4 ∷ 0 ∷ 1 ∷ []) (a ∷ b ∷ []) ≡ a ∷ opaque 0 0 ∷ []
+  pub getfieldLong : leaves opaque locals large (0xb4 ∷ 0 ∷ 1 ∷ []) (a ∷ b ∷ []) ≡ a ∷ opaque 0 0 ∷ opaque 0 1 ∷ []
+  pub getfieldFrom : dereferences opaque locals large (0xb4 ∷ 0 ∷ 1 ∷ []) (a ∷ b ∷ []) ≡ b ∷ []
+  -- invokestatic: "..., [arg1, [arg2 ...]] → ...", and what the method returns: of (I)V and of (IJ)D
+  pub invokestaticInt : leaves opaque locals small (0xb8 ∷ 0 ∷ 1 ∷ []) (a ∷ b ∷ []) ≡ a ∷ []
+  pub invokestaticLong :
+      leaves opaque locals large (0xb8 ∷ 0 ∷ 1 ∷ []) (a ∷ b ∷ c ∷ d ∷ []) ≡ a ∷ opaque 0 0 ∷ opaque 0 1 ∷ []
+  -- invokevirtual: "..., objectref, [arg1, [arg2 ...]] → ...", and what the method returns
+  pub invokevirtualInt : leaves opaque locals small (0xb6 ∷ 0 ∷ 1 ∷ []) (a ∷ b ∷ c ∷ []) ≡ a ∷ []
+  pub invokevirtualLong :
+      leaves opaque locals large (0xb6 ∷ 0 ∷ 1 ∷ []) (a ∷ b ∷ c ∷ d ∷ []) ≡ opaque 0 0 ∷ opaque 0 1 ∷ []
+  pub invokevirtualFrom : dereferences opaque locals large (0xb6 ∷ 0 ∷ 1 ∷ []) (a ∷ b ∷ c ∷ d ∷ []) ≡ a ∷ []
