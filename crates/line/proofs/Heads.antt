@@ -10,12 +10,13 @@ use Rattle.report.specs.declared.Report.the-variants.{Message, NoMessage, Broke
 use Rattle.line.specs.Head.{spaced, allSpaced, headBy, headText}
 use Rattle.line.specs.Pieces.{carried, counted}
 
+zero-spaced : spaced 0 ≡ ascii "0 "
+unfolding spaced decimal digits
+zero-spaced = refl
+
 pub head-of-message : (size kind scan block : ℕ) → headText (Message size kind scan block) ≡ counted kind scan block
 unfolding headText headBy allSpaced counted numbered
 head-of-message size kind scan block = simp (zero-spaced, append-assoc, append-nil)
-  where
-    zero-spaced : spaced 0 ≡ ascii "0 "
-    zero-spaced = refl
 
 pub head-of-none : headText NoMessage ≡ ascii "1 0 0 0"
 unfolding headText headBy numbered decimal digits
