@@ -1,4 +1,5 @@
 pub mod Action
+pub mod Counts
 pub mod Message
 pub mod Names
 pub mod Texts

@@ -1,4 +1,4 @@
--- An answer is told by its numbers: it is read back from them.
+-- An answer is told by its numbers: it is read back from them. What is said is delivered in one way.
 -- Assumes nothing.
 use Prim.Native.Nat.{ℕ}
 use mathlib.Core.List.{List}
@@ -6,8 +6,9 @@ use mathlib.Core.Path.{_≡_, refl, _∙_, sym, ap}
 use lib.Dec.{eqb}
 use lib.ListN.{getD}
 use Rattle.basics.specs.Choice.{pick}
+use Rattle.basics.proofs.Outcome.{one-outcome}
 use Rattle.report.specs.Answers.{NumberedInjective}
-use Rattle.report.specs.Report.{numbered}
+use Rattle.report.specs.Report.{Said, Delivered, numbered}
 use Rattle.report.specs.declared.Report.{Report}
 use Rattle.report.specs.declared.Report.the-variants.{Message, NoMessage, Broken, NoRoom, NoOutput, TooLong}
 
@@ -31,3 +32,8 @@ read-back TooLong = refl
 
 pub numbered-injective : NumberedInjective
 numbered-injective one another e = sym (read-back one) ∙ ap answered e ∙ read-back another
+
+pub delivered-once :
+    {what : Said} {out left left′ : List ℕ} {one another : Report} →
+    Delivered what out one left → Delivered what out another left′ → (one ≡ another) × (left ≡ left′)
+delivered-once is was = (one-outcome (is .answers) (was .answers), one-outcome (is .leaves) (was .leaves))

@@ -12,6 +12,7 @@ use lib.ListN.{length, take, drop, getD, set, length-append, length-drop, drop-o
 use lib.Seq.{take-all}
 use borrow.Author.Tests.{leb-true, leb-false}
 use borrow.Rule.Slice.PartMut.{putMid}
+use Rattle.basics.proofs.Outcome.{one-outcome}
 use Rattle.text.specs.Writing.{over, splice, most, following, Written}
 
 -- ---- the output keeps its length
@@ -78,6 +79,12 @@ written-then {at} {k} {next} {v} {w} {out} {middle} {after} short first second =
       place = rw length-append (omega (arith, first .place, second .place));
       bytes = second .bytes ∙ ap (λ (l : List ℕ). splice k w l) (first .bytes) ∙ behind-first at k v w out short (first .place);
     }
+
+-- one place and one output
+pub written-once :
+    {at next next′ : ℕ} {text out after after′ : List ℕ} →
+    Written at text out next after → Written at text out next′ after′ → (next ≡ next′) × (after ≡ after′)
+written-once is was = (one-outcome (is .place) (was .place), one-outcome (is .bytes) (was .bytes))
 
 -- the output keeps its length
 pub written-length :

@@ -1,0 +1,196 @@
+-- A code of n bytes has at most n instructions, and a walk to a fault completes at most as many as the fault's index. So the counts
+-- of a case are small.
+-- Assumes nothing.
+use Prim.Native.Nat.{ℕ, zero, suc, _+_, _-_, _≤_}
+use native.Mathlib.Omega.{arith}
+use mathlib.Core.Path.{_≡_, refl}
+use mathlib.Core.Bool.{Bool, true, false}
+use mathlib.Core.List.{List, [], _∷_}
+use lib.Dec.{eqb, leb, ltb, lit≤}
+use lib.ListN.{length}
+use Rattle.basics.specs.Bytes.{AreBytes}
+use Rattle.basics.specs.Choice.{pick}
+use Rattle.basics.proofs.Choice.{chosen}
+use Rattle.bytecode.specs.Length.{lengthOf}
+use Rattle.bytecode.specs.declared.Measure.{Measure}
+use Rattle.bytecode.specs.declared.Measure.the-variants.{Length, NoLength}
+use Rattle.leader.specs.Greatest.{greatest as greatestOf}
+use Rattle.leader.specs.Scan.{Instructions, ended as scanEnded, unmeasured, instruction, scanStep, scanFrom, instructions, scanCount, leadersOf, answered, blockLeader}
+use Rattle.leader.specs.declared.Scan.{Scan}
+use Rattle.leader.specs.declared.Scan.the-variants.{Leader, Unmeasured}
+use Rattle.casefile.specs.Number.{greatest}
+use Rattle.casefile.specs.Parts.{Parts, partsOf}
+use Rattle.casefile.specs.Whole.{caseOf}
+use Rattle.casefile.specs.declared.Case.{Case}
+use Rattle.casefile.specs.declared.Case.the-variants as cases
+use Rattle.cases.specs.LaidOut.{LaidOut}
+use Rattle.cases.proofs.Laying.{accepted-is-laid-out}
+use Rattle.effects.specs.Lookup.{Lookup, lookupIn}
+use Rattle.effects.specs.Rows.{Row, rowOf}
+use Rattle.block.specs.Room.{Completed, Roomed, lacks, fits, judged, completed, blockWalk}
+use Rattle.block.specs.Walk.{Marks, cells, Outcome, stops, goes, passes, Walked, done, failed, overshot, ended, after, step, walkFrom, walk}
+use Rattle.block.specs.declared.Slot.{Slot}
+use Rattle.block.specs.declared.Slot.the-variants.{Other, Loaded}
+use Rattle.fault.specs.Decoding.{decoded}
+use Rattle.fault.specs.declared.Fault.{Fault}
+use Rattle.fault.specs.declared.Fault.the-variants.{Failed, Nothing}
+use Rattle.report.specs.Report.{kindOf, messageOf, Said, silent, roomless, said, saidBy, saidAt, saidOf, needed, answerBy, answerOf, reportOf}
+use Rattle.report.specs.Trace.{traceOf, tracedBy, traced}
+use Rattle.report.specs.declared.Report.the-variants.{Message, NoOutput}
+use Rattle.report.specs.declared.Trace.{Trace}
+use Rattle.report.specs.declared.Trace.the-variants.{NoRoom, Traced}
+use Rattle.bounds.specs.Counts.{Small, CountsSmall}
+
+-- ---- the scan
+
+scan-step :
+    (b : Bool) (m : Measure) (k pc : ℕ) (following : ℕ → Instructions) → ((at : ℕ) → scanCount (following at) ≤ k) →
+    scanCount (scanStep b m pc following) ≤ suc k
+unfolding scanCount
+scan-step false m k pc following rest = omega arith
+scan-step true (Length n) k pc following rest = omega (arith, rest (pc + n))
+scan-step true NoLength k pc following rest = omega arith
+
+scan-within : (measure : List ℕ → ℕ → Measure) (code : List ℕ) (k pc : ℕ) → scanCount (scanFrom measure code k pc) ≤ k
+unfolding scanFrom scanCount
+scan-within measure code zero pc = omega arith
+scan-within measure code (suc k) pc =
+    scan-step (ltb pc (length code)) (measure code pc) k pc (λ next. scanFrom measure code k next)
+    (λ at. scan-within measure code k at)
+
+abbrev countOf : Scan → ℕ
+countOf (Leader at count) = count
+countOf (Unmeasured at count) = count
+
+count-kept : (i : Instructions) (leader count : ℕ) → countOf (answered i leader count) ≡ count
+unfolding answered
+count-kept scanEnded leader count = refl
+count-kept (unmeasured pc) leader count = refl
+count-kept (instruction pc n rest) leader count = count-kept rest leader count
+
+scanned : (code : List ℕ) (fault : ℕ) → countOf (blockLeader lengthOf [] code fault) ≤ length code
+unfolding blockLeader instructions
+scanned code fault =
+    let found = instructions lengthOf code in
+    omega (
+      arith,
+      count-kept found (greatestOf fault (leadersOf code found)) (scanCount found),
+      scan-within lengthOf code (length code) 0,
+    )
+
+-- ---- the walk
+
+abbrev completedBy : {A : Type 0} → Walked A → ℕ
+completedBy (done slots count) = count
+completedBy (failed count reason) = count
+
+module _ {A : Type 0} (marks : Marks A) (rows : ℕ → Row) (lookup : Lookup) (code : List ℕ) (fault : ℕ) where
+  end-within : (pc : ℕ) (slots : List A) (count more : ℕ) → completedBy (ended marks rows lookup code fault pc slots count) ≤ count + more
+  end-within pc slots count more =
+      chosen (λ (w : Walked A). completedBy w ≤ count + more) (eqb pc fault) (done slots count) (failed count overshot)
+      (omega arith) (omega arith)
+
+  after-within :
+      (o : Outcome A) (count turns : ℕ) (following : ℕ → List A → Walked A) →
+      ((next : ℕ) (slots : List A) → completedBy (following next slots) ≤ count + 1 + turns) →
+      completedBy (after marks rows lookup code fault o count following) ≤ count + suc turns
+  after-within (stops reason) count turns following rest = omega arith
+  after-within (goes next slots) count turns following rest = omega (arith, rest next slots)
+  after-within (passes slots) count turns following rest = omega arith
+
+  walk-within :
+      (turns pc : ℕ) (slots : List A) (count : ℕ) →
+      completedBy (walkFrom marks rows lookup code fault turns pc slots count) ≤ count + turns
+  unfolding walkFrom
+  walk-within zero pc slots count = end-within pc slots count 0
+  walk-within (suc turns) pc slots count =
+      chosen (λ (w : Walked A). completedBy w ≤ count + suc turns) (ltb pc fault) _ _
+      (after-within (step marks rows lookup code fault pc slots) count turns
+      (λ next list. walkFrom marks rows lookup code fault turns next list (count + 1))
+      (λ next list. walk-within turns next list (count + 1)))
+      (end-within pc slots count (suc turns))
+
+abbrev Within : {A : Type 0} → ℕ → Roomed A → Type 0
+Within limit (lacks index) = Unit {0}
+Within limit (fits walked) = completedBy walked ≤ limit
+
+judged-within :
+    {A : Type 0} (limit room : ℕ) (cs : List Completed) (walked : Walked A) → completedBy walked ≤ limit →
+    Within limit (judged room cs walked)
+judged-within limit room [] walked small = small
+judged-within limit room (c ∷ cs) walked small =
+    chosen (Within limit) (leb (c .height) room) (judged room cs walked) (lacks (c .index))
+    (judged-within limit room cs walked small) tt
+
+walked-within :
+    (code members : List ℕ) (count leader fault room : ℕ) → Within fault (blockWalk code members count leader fault room)
+unfolding blockWalk walk
+walked-within code members count leader fault room =
+    let lookup = lookupIn members count in
+    judged-within fault room (completed cells rowOf lookup code fault leader) _
+    (omega (arith, walk-within cells rowOf lookup code fault (fault - leader) leader [] 0))
+
+-- ---- the report
+
+abbrev SmallTrace : Trace → Type 0
+SmallTrace (NoRoom index) = Unit {0}
+SmallTrace (Traced scan block cause) = (scan ≤ greatest) × (block ≤ greatest)
+
+abbrev SmallSaid : Said → Type 0
+SmallSaid silent = Unit {0}
+SmallSaid (roomless index) = Unit {0}
+SmallSaid (said message kind scan block) = (kind ≤ 2) × (scan ≤ greatest) × (block ≤ greatest)
+
+small-trace :
+    (scan depth limit : ℕ) (r : Roomed ℕ) → scan ≤ greatest → limit ≤ greatest → Within limit r → SmallTrace (traceOf scan depth r)
+small-trace scan depth limit (lacks index) few most within = tt
+small-trace scan depth limit (fits (done slots block)) few most within = (few, omega arith)
+small-trace scan depth limit (fits (failed block reason)) few most within = (few, omega arith)
+
+module _ (p : Parts) (laid : LaidOut p) (room : ℕ) where
+  traced-small : (depth : ℕ) → SmallTrace (traced (p .code) (p .members) (p .memberCount) (p .fault) depth room)
+  unfolding traced
+  traced-small depth = by-scan (blockLeader lengthOf [] (p .code) (p .fault)) (scanned (p .code) (p .fault))
+    where
+      by-scan :
+          (s : Scan) → countOf s ≤ length (p .code) →
+          SmallTrace (tracedBy (p .code) (p .members) (p .memberCount) (p .fault) depth room s)
+      by-scan (Leader leader scan) few =
+          small-trace scan depth (p .fault) (blockWalk (p .code) (p .members) (p .memberCount) leader (p .fault) room)
+          (omega (arith, laid .code)) (laid .fault)
+          (walked-within (p .code) (p .members) (p .memberCount) leader (p .fault) room)
+      by-scan (Unmeasured at scan) few = (omega (arith, laid .code), lit≤ tt)
+
+  said-small : SmallSaid (saidOf p room)
+  unfolding saidOf
+  said-small = by-fault (decoded (p .code) (p .members) (p .memberCount) (p .fault))
+    where
+      kind-small : (cause : Slot) → kindOf cause ≤ 2
+      kind-small Other = lit≤ tt
+      kind-small (Loaded load local) = lit≤ tt
+
+      by-fault : (f : Fault) → SmallSaid (saidAt p room f)
+      by-fault Nothing = tt
+      by-fault (Failed action depth) =
+          by-trace (traced (p .code) (p .members) (p .memberCount) (p .fault) depth room) (traced-small depth)
+        where
+          by-trace : (t : Trace) → SmallTrace t → SmallSaid (saidBy p action t)
+          by-trace (NoRoom index) small = tt
+          by-trace (Traced scan block cause) small = (kind-small cause, small .0, small .1)
+
+small-answer : (s : Said) (outRoom : ℕ) → SmallSaid s → Small (answerBy s outRoom)
+small-answer silent outRoom small = tt
+small-answer (roomless index) outRoom small = tt
+small-answer (said message kind scan block) outRoom small =
+    chosen Small (leb (length message) outRoom) (Message (length message) kind scan block) (NoOutput (needed message)) small tt
+
+pub counts-small : CountsSmall
+unfolding reportOf
+counts-small bytes are room outRoom = by-case (caseOf bytes) refl
+  where
+    by-case : (c : Case) → caseOf bytes ≡ c → Small (answerOf bytes room outRoom c)
+    by-case (cases.Parts places) e =
+        small-answer (saidOf (partsOf bytes places) room) outRoom
+        (said-small (partsOf bytes places) (accepted-is-laid-out bytes are places e .0) room)
+    by-case (cases.Wrong offset) e = tt
+    by-case cases.TooLong e = tt

@@ -1,0 +1,20 @@
+-- The C interface's report has kind and counts of 32 bits. Of every case they are document 01's own: none is cut down to fit.
+-- proofs/Counts.antt has the proof.
+-- Assumes nothing.
+use Prim.Native.Nat.{ℕ}
+use mathlib.Core.Path.{_≡_}
+use mathlib.Core.List.{List}
+use Rattle.basics.specs.Bytes.{AreBytes}
+use Rattle.ffi.specs.Numbers.{nth, reportNumbers}
+use Rattle.ffi.specs.declared.KorsepalReport.{KorsepalReport}
+use Rattle.report.specs.Report.{reportOf, numbered}
+
+-- the numbers of an answer, as they are
+abbrev pub plainly : List ℕ → KorsepalReport
+plainly numbers =
+    record { answer = nth 0 numbers; kind = nth 2 numbers; scan = nth 3 numbers; block = nth 4 numbers; value = nth 1 numbers }
+
+abbrev pub CCounts : Type 0
+CCounts =
+    (bytes : List ℕ) → AreBytes bytes → (room outRoom : ℕ) →
+    reportNumbers (reportOf bytes room outRoom) ≡ plainly (numbered (reportOf bytes room outRoom))

@@ -1,0 +1,1 @@
+// No code: what the promises of the other crates have in common.
