@@ -10,8 +10,8 @@ use Rattle.basics.specs.Bytes.{byteAt, u16At}
 use Rattle.descriptor.specs.Readers.{parameters, returnSlots, fieldSlots}
 use Rattle.descriptor.specs.declared.Params.the-variants.{Read, Unreadable as NoParams}
 use Rattle.descriptor.specs.declared.Slots.the-variants.{Slots as SlotsOf, Unreadable as NoSlots}
-use Rattle.casefile.specs.Member.{memberFound}
-use Rattle.casefile.specs.Text.{descriptorOf}
+use Rattle.items.specs.Text.{descriptorOf}
+use Rattle.tables.specs.Member.{memberFound}
 use Rattle.effects.specs.Lookup.{Lookup, lookupIn}
 use Rattle.effects.proofs.Known.{known-none, known-some}
 use Rattle.effects.specs.Rows.{Row, aload, gets, calls, rowOf}

@@ -220,7 +220,7 @@ fn get_effect(
     Effect::Opaque {
         takes,
         args: 0,
-        gives: descriptor::slots_of_field_type(casefile::descriptor_of(texts)),
+        gives: descriptor::slots_of_field_type(items::descriptor_of(texts)),
     }
 }
 
@@ -245,7 +245,7 @@ fn call_effect(
     if texts.len() == 0 {
         return Effect::Fails;
     }
-    let signature = casefile::descriptor_of(texts);
+    let signature = items::descriptor_of(texts);
     let Params::Read {
         slots: args,
         end: _,

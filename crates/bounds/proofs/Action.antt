@@ -8,8 +8,8 @@ use mathlib.Core.List.{List, [], _∷_, _++_}
 use lib.Dec.{lit≤}
 use lib.ListN.{length, length-append}
 use Rattle.basics.specs.Ascii.{ascii}
-use Rattle.casefile.specs.Member.{memberFound}
-use Rattle.casefile.specs.Text.{afterText, classOf, nameOf, descriptorOf}
+use Rattle.items.specs.Text.{afterText, classOf, nameOf, descriptorOf}
+use Rattle.tables.specs.Member.{memberFound}
 use Rattle.casefile.specs.Whole.{longest}
 use Rattle.names.specs.Names.{className, parameterNames}
 use Rattle.locals.specs.Name.{localName}

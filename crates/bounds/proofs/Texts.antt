@@ -10,13 +10,13 @@ use Rattle.basics.specs.Ascii.{ascii}
 use Rattle.basics.specs.Choice.{pick, both}
 use Rattle.basics.proofs.Choice.{chosen}
 use Rattle.basics.proofs.Every.{both-first, both-second}
-use Rattle.casefile.specs.LocalRecord.{recordsIn}
-use Rattle.casefile.specs.Member.{memberAt, thenMember, textsOf, memberFound}
-use Rattle.casefile.specs.Text.{textAt, thenText, textPart}
-use Rattle.casefile.specs.declared.Member.{Member}
-use Rattle.casefile.specs.declared.Member.the-variants.{Read, Wrong}
-use Rattle.casefile.specs.declared.Text.{Text}
-use Rattle.casefile.specs.declared.Text.the-variants.{Place, NotText}
+use Rattle.items.specs.Text.{textAt, thenText, textPart}
+use Rattle.items.specs.declared.Text.{Text}
+use Rattle.items.specs.declared.Text.the-variants.{Place, NotText}
+use Rattle.tables.specs.LocalRecord.{recordsIn}
+use Rattle.tables.specs.Member.{memberAt, thenMember, textsOf, memberFound}
+use Rattle.tables.specs.declared.Member.{Member}
+use Rattle.tables.specs.declared.Member.the-variants.{Read, Wrong}
 use Rattle.descriptor.specs.declared.Found.{Found}
 use Rattle.descriptor.specs.declared.Found.the-variants.{At, Absent}
 use Rattle.locals.specs.Name.{firstMatch, signatureParameter, numberedName, parameterName, unnamed, nameBy, localName}

@@ -1,10 +1,9 @@
 -- The parts of a case, and the bytes that they lay out to (document 01, "The case").
 -- Assumes nothing.
-use Prim.Native.Nat.{ℕ, _+_}
+use Prim.Native.Nat.{ℕ}
 use mathlib.Core.List.{List, _++_}
-use lib.ListN.{take, drop}
-use Rattle.casefile.specs.Number.{numberBytes}
-use Rattle.casefile.specs.Text.{textBytes}
+use Rattle.items.specs.Number.{numberBytes}
+use Rattle.items.specs.Text.{textBytes, partAt}
 use Rattle.casefile.specs.declared.Places.{Places}
 
 -- four runs of bytes, two numbers and two counts
@@ -24,10 +23,6 @@ unfoldable pub caseBytes : Parts → List ℕ
 caseBytes p =
     numberBytes (p .flags) ++ (numberBytes (p .fault) ++ (textBytes (p .code) ++ (textBytes (p .signature) ++
     (numberBytes (p .memberCount) ++ (p .members ++ (numberBytes (p .recordCount) ++ p .records))))))
-
--- so many bytes from a place on
-abbrev pub partAt : List ℕ → ℕ → ℕ → List ℕ
-partAt bytes start size = take size (drop start bytes)
 
 -- the parts that lie at these places
 unfoldable pub partsOf : List ℕ → Places → Parts

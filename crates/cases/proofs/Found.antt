@@ -12,12 +12,12 @@ use lib.Dec.{eqb, ltb, leb}
 use lib.ListN.{length, take, drop, length-append}
 use borrow.Author.Tests.{lt-ltb, le-leb, eq-eqb, ne-eqb}
 use Rattle.basics.specs.Choice.{pick}
-use Rattle.casefile.specs.Number.{greatest, groupOrMore, groupsOf, numberBytes, numberAt}
-use Rattle.casefile.specs.Text.{textBytes, textAt, textPart, afterText, classOf, nameOf, descriptorOf}
-use Rattle.casefile.specs.Layout.{ended, threeTexts, runBy}
-use Rattle.casefile.specs.Member.{memberAt, textsOf, memberFound}
-use Rattle.casefile.specs.declared.Member.the-variants.{Read}
-use Rattle.casefile.specs.declared.Run.the-variants.{End}
+use Rattle.items.specs.Number.{greatest, groupOrMore, groupsOf, numberBytes, numberAt}
+use Rattle.items.specs.Text.{textBytes, textAt, textPart, afterText, classOf, nameOf, descriptorOf}
+use Rattle.tables.specs.Layout.{ended, threeTexts, runBy}
+use Rattle.tables.specs.Member.{memberAt, textsOf, memberFound}
+use Rattle.tables.specs.declared.Member.the-variants.{Read}
+use Rattle.tables.specs.declared.Run.the-variants.{End}
 use Rattle.cases.specs.LaidOut.{Member, textsBytes, memberBytes, membersBytes, RightMember, RightMembers, none, more}
 use Rattle.cases.specs.Lookup.{_among_, foundIn, LookupDeclared}
 use Rattle.cases.specs.Standing.{Stands}

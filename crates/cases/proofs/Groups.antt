@@ -10,9 +10,9 @@ use lib.Dec.{ltb}
 use lib.ListN.{length, take, drop}
 use borrow.Author.Tests.{lt-ltb, le-ltb, ltb-true, ltb-false}
 use Rattle.basics.specs.Bytes.{AreBytes}
-use Rattle.casefile.specs.Number.{greatest, groupOrMore, groupsOf, numberBytes}
-use Rattle.casefile.specs.Text.{textBytes, textAt}
-use Rattle.casefile.specs.declared.Text.the-variants.{Place}
+use Rattle.items.specs.Number.{greatest, groupOrMore, groupsOf, numberBytes}
+use Rattle.items.specs.Text.{textBytes, textAt}
+use Rattle.items.specs.declared.Text.the-variants.{Place}
 use Rattle.cases.specs.Item.{Groups, last, before, NumberDeclared, TextDeclared}
 use Rattle.cases.specs.Standing.{Stands}
 use Rattle.cases.proofs.Reading.{one-group, more-groups, number-reads, number-stands, text-reads, text-part-is, text-stands}

@@ -11,15 +11,15 @@ use lib.ListN.{length, take, drop, length-append}
 use borrow.Author.Tests.{lt-ltb, le-leb, ltb-true, leb-true}
 use Rattle.basics.specs.Bytes.{AreBytes}
 use Rattle.basics.specs.Choice.{pick}
-use Rattle.casefile.specs.Number.{greatest, numberBytes, numberAt, thenNumber}
-use Rattle.casefile.specs.Text.{textBytes, textAt, thenText}
-use Rattle.casefile.specs.Layout.{Layout, number, text, ended, any, threeTexts, memberThen, membersThen, recordThen, recordsThen, runBy}
-use Rattle.casefile.specs.declared.Number.{Number}
-use Rattle.casefile.specs.declared.Number.the-variants.{Value, NotNumber}
-use Rattle.casefile.specs.declared.Run.{Run}
-use Rattle.casefile.specs.declared.Run.the-variants.{End, Wrong}
-use Rattle.casefile.specs.declared.Text.{Text}
-use Rattle.casefile.specs.declared.Text.the-variants.{Place, NotText}
+use Rattle.items.specs.Number.{greatest, numberBytes, numberAt, thenNumber}
+use Rattle.items.specs.Text.{textBytes, textAt, thenText}
+use Rattle.items.specs.declared.Number.{Number}
+use Rattle.items.specs.declared.Number.the-variants.{Value, NotNumber}
+use Rattle.items.specs.declared.Text.{Text}
+use Rattle.items.specs.declared.Text.the-variants.{Place, NotText}
+use Rattle.tables.specs.Layout.{Layout, number, text, ended, any, threeTexts, memberThen, membersThen, recordThen, recordsThen, runBy}
+use Rattle.tables.specs.declared.Run.{Run}
+use Rattle.tables.specs.declared.Run.the-variants.{End, Wrong}
 use Rattle.cases.specs.LaidOut.{Member, textsBytes, memberBytes, membersBytes, RightMember, RightMembers, none, more, Local, recordBytes, recordsBytes, RightLocal, RightLocals}
 use Rattle.cases.specs.LaidOut as laid
 use Rattle.cases.specs.Standing.{Stands}

@@ -6,11 +6,11 @@ use native.Mathlib.Omega.{arith}
 use mathlib.Core.Path.{_≡_, refl, _∙_, sym, ap, ap₂, subst}
 use mathlib.Core.List.{List, [], _∷_, _++_, append-nil}
 use lib.ListN.{length, take, drop, length-append}
-use Rattle.casefile.specs.LocalRecord.{recordAt, recordsIn}
-use Rattle.casefile.specs.Number.{greatest, numberBytes}
-use Rattle.casefile.specs.Text.{textBytes}
-use Rattle.casefile.specs.declared.LocalRecord.the-variants.{Read}
-use Rattle.casefile.specs.declared.RecordPlace.{RecordPlace}
+use Rattle.items.specs.Number.{greatest, numberBytes}
+use Rattle.items.specs.Text.{textBytes}
+use Rattle.tables.specs.LocalRecord.{recordAt, recordsIn}
+use Rattle.tables.specs.declared.LocalRecord.the-variants.{Read}
+use Rattle.tables.specs.declared.RecordPlace.{RecordPlace}
 use Rattle.cases.specs.LaidOut.{Local, recordBytes, recordsBytes, RightLocal, RightLocals}
 use Rattle.cases.specs.LaidOut as laid
 use Rattle.cases.specs.Listed.{localAt, localsAt, RecordsListed}

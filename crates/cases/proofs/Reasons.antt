@@ -13,9 +13,9 @@ use lib.ListN.{length, getD, take, drop, length-append, length-take, length-drop
 use lib.Seq.{getD-drop}
 use borrow.Author.Tests.{ltb-true, ltb-false, leb-true, leb-false}
 use Rattle.basics.specs.Bytes.{byteAt, AreBytes}
-use Rattle.casefile.specs.Number.{greatest, numberBytes}
-use Rattle.casefile.specs.Text.{textBytes}
-use Rattle.casefile.specs.Layout.{Layout, number, text, ended, any}
+use Rattle.items.specs.Number.{greatest, numberBytes}
+use Rattle.items.specs.Text.{textBytes}
+use Rattle.tables.specs.Layout.{Layout, number, text, ended, any}
 use Rattle.cases.specs.FirstWrong.{NothingRight, FirstWrong}
 use Rattle.cases.specs.Item.{Groups, last, before}
 use Rattle.cases.specs.Reasons.{WrongNumber, cut, long, large, refused, WrongText, size, short, Reason, WrongForAReason}

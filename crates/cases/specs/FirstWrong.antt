@@ -9,9 +9,9 @@ use mathlib.Core.List.{List}
 use lib.Dec.{T}
 use lib.ListN.{length}
 use Rattle.basics.specs.Bytes.{AreBytes}
-use Rattle.casefile.specs.Number.{greatest, numberBytes}
-use Rattle.casefile.specs.Text.{textBytes}
-use Rattle.casefile.specs.Layout.{Layout, number, text, ended, caseLayout}
+use Rattle.items.specs.Number.{greatest, numberBytes}
+use Rattle.items.specs.Text.{textBytes}
+use Rattle.tables.specs.Layout.{Layout, number, text, ended, caseLayout}
 use Rattle.casefile.specs.Whole.{longest, caseOf}
 use Rattle.casefile.specs.declared.Case.the-variants.{Wrong, TooLong}
 use Rattle.cases.specs.Standing.{Stands}

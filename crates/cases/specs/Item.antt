@@ -7,10 +7,10 @@ use mathlib.Core.Path.{_≡_}
 use mathlib.Core.List.{List, [], _∷_}
 use lib.ListN.{length, take, drop}
 use Rattle.basics.specs.Bytes.{AreBytes}
-use Rattle.casefile.specs.Number.{greatest, numberBytes, numberAt}
-use Rattle.casefile.specs.Text.{textBytes, textAt}
-use Rattle.casefile.specs.declared.Number.the-variants.{Value}
-use Rattle.casefile.specs.declared.Text.the-variants.{Place}
+use Rattle.items.specs.Number.{greatest, numberBytes, numberAt}
+use Rattle.items.specs.Text.{textBytes, textAt}
+use Rattle.items.specs.declared.Number.the-variants.{Value}
+use Rattle.items.specs.declared.Text.the-variants.{Place}
 use Rattle.cases.specs.Standing.{Stands}
 
 -- bytes that stand for a number, in the fewest or not: seven bits to a byte, low group first, top bit set when another follows

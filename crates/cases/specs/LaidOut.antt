@@ -6,8 +6,8 @@ use mathlib.Core.Path.{_≡_}
 use mathlib.Core.List.{List, [], _∷_, _++_}
 use lib.ListN.{length}
 use Rattle.basics.specs.Bytes.{AreBytes}
-use Rattle.casefile.specs.Number.{greatest, numberBytes}
-use Rattle.casefile.specs.Text.{textBytes}
+use Rattle.items.specs.Number.{greatest, numberBytes}
+use Rattle.items.specs.Text.{textBytes}
 use Rattle.casefile.specs.Parts.{Parts, caseBytes, partsOf}
 use Rattle.casefile.specs.Whole.{longest, caseOf}
 use Rattle.casefile.specs.declared.Case.the-variants as answer

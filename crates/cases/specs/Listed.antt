@@ -5,9 +5,9 @@ use Prim.Native.Nat.{ℕ}
 use mathlib.Core.Path.{_≡_}
 use mathlib.Core.List.{List, [], _∷_}
 use lib.ListN.{length}
-use Rattle.casefile.specs.LocalRecord.{recordsIn}
-use Rattle.casefile.specs.Parts.{partAt}
-use Rattle.casefile.specs.declared.RecordPlace.{RecordPlace}
+use Rattle.items.specs.Text.{partAt}
+use Rattle.tables.specs.LocalRecord.{recordsIn}
+use Rattle.tables.specs.declared.RecordPlace.{RecordPlace}
 use Rattle.cases.specs.LaidOut.{Local, recordsBytes, RightLocals}
 
 -- a record with its name as bytes

@@ -5,8 +5,8 @@ use Prim.Native.Nat.{ℕ, _<_}
 use mathlib.Core.Path.{_≡_}
 use mathlib.Core.List.{List, [], List·Memᴰ}
 use lib.ListN.{length}
-use Rattle.casefile.specs.Member.{memberFound}
-use Rattle.casefile.specs.Text.{classOf, nameOf, descriptorOf}
+use Rattle.items.specs.Text.{classOf, nameOf, descriptorOf}
+use Rattle.tables.specs.Member.{memberFound}
 use Rattle.cases.specs.LaidOut.{Member, textsBytes, membersBytes, RightMember, RightMembers}
 
 infix 4 _among_

@@ -5,7 +5,7 @@ use native.Mathlib.Omega.{arith}
 use mathlib.Core.Path.{_≡_, refl}
 use mathlib.Core.List.{List, [], _∷_}
 use lib.ListN.{length}
-use Rattle.casefile.specs.Text.{descriptorOf}
+use Rattle.items.specs.Text.{descriptorOf}
 use Rattle.effects.specs.Lookup.{missing, known, knownBy}
 
 pub known-none : (texts : List ℕ) → length texts ≡ 0 → knownBy texts ≡ missing

@@ -2,8 +2,8 @@
 -- Assumes nothing.
 use Prim.Native.Nat.{ℕ}
 use mathlib.Core.List.{List, [], _∷_}
-use Rattle.casefile.specs.Member.{memberFound}
-use Rattle.casefile.specs.Text.{descriptorOf}
+use Rattle.items.specs.Text.{descriptorOf}
+use Rattle.tables.specs.Member.{memberFound}
 
 -- a descriptor, or nothing: "A member missing, or of the other kind"
 pub data Known : Type 0 where

@@ -17,12 +17,13 @@ use Rattle.leader.specs.Targets.{kindOf, leadersAt}
 use Rattle.descriptor.specs.Search.{firstIn, firstFrom}
 use Rattle.text.specs.Decimal.{digits, decimal}
 use Rattle.text.specs.Writing.{over}
-use Rattle.casefile.specs.Layout.{membersThen, recordsThen, runBy}
-use Rattle.casefile.specs.LocalRecord.{recordsIn}
-use Rattle.casefile.specs.Number.{numberFrom, numberAt}
+use Rattle.items.specs.Number.{numberFrom, numberAt}
+use Rattle.items.specs.Text.{textAt}
+use Rattle.tables.specs.Layout.{membersThen, recordsThen, runBy}
+use Rattle.tables.specs.LocalRecord.{recordsIn}
+use Rattle.tables.specs.Tables.{tablesAt}
 use Rattle.casefile.specs.Parts.{partsOf}
-use Rattle.casefile.specs.Text.{textAt}
-use Rattle.casefile.specs.Whole.{tablesAt, placesIn, caseOf}
+use Rattle.casefile.specs.Whole.{placesIn, caseOf}
 use Rattle.effects.specs.Depth.{ruleOf, depthOf}
 use Rattle.effects.specs.Rows.{rowOf}
 use Rattle.block.specs.Room.{completedFrom, completed, blockWalk}

@@ -7,8 +7,8 @@ use lib.Dec.{eqb}
 use Rattle.basics.specs.Ascii.{ascii}
 use Rattle.basics.specs.Bytes.{byteAt, u16At}
 use Rattle.basics.specs.Choice.{pick, both, oneOf, between, sameList}
-use Rattle.casefile.specs.Member.{memberFound}
-use Rattle.casefile.specs.Text.{nameOf}
+use Rattle.items.specs.Text.{nameOf}
+use Rattle.tables.specs.Member.{memberFound}
 use Rattle.effects.specs.Depth.{Depth, nowhere, at, ruleOf, depthBy, depthOf}
 use Rattle.effects.specs.Lookup.{lookupIn}
 use Rattle.fault.specs.declared.Action.{Action}

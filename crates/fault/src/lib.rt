@@ -40,7 +40,7 @@ fn read_fault(code: &[u8], members: &[u8], count: usize, fault: usize) -> Fault
         return Fault::Nothing;
     }
     let index = bytecode::read_u16(code, fault + 1);
-    if casefile::find_member(members, count, index, 0).len() == 0 {
+    if tables::find_member(members, count, index, 0).len() == 0 {
         return Fault::Nothing;
     }
     Fault::Failed {
@@ -58,13 +58,13 @@ fn assign_fault(code: &[u8], members: &[u8], count: usize, fault: usize) -> Faul
         return Fault::Nothing;
     }
     let index = bytecode::read_u16(code, fault + 1);
-    let texts = casefile::find_member(members, count, index, 0);
+    let texts = tables::find_member(members, count, index, 0);
     if texts.len() == 0 {
         return Fault::Nothing;
     }
     Fault::Failed {
         action: Action::AssignField { index },
-        depth: descriptor::slots_of_field_type(casefile::descriptor_of(texts)),
+        depth: descriptor::slots_of_field_type(items::descriptor_of(texts)),
     }
 }
 
@@ -77,14 +77,14 @@ fn invoke_fault(code: &[u8], members: &[u8], count: usize, fault: usize) -> Faul
         return Fault::Nothing;
     }
     let index = bytecode::read_u16(code, fault + 1);
-    let texts = casefile::find_member(members, count, index, 1);
+    let texts = tables::find_member(members, count, index, 1);
     if texts.len() == 0 {
         return Fault::Nothing;
     }
-    if same(casefile::name_of(texts), b"<init>") {
+    if same(items::name_of(texts), b"<init>") {
         return Fault::Nothing;
     }
-    let Params::Read { slots, end: _ } = descriptor::parse_method_params(casefile::descriptor_of(
+    let Params::Read { slots, end: _ } = descriptor::parse_method_params(items::descriptor_of(
         texts,
     )) else {
         return Fault::Nothing;

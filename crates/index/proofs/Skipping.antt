@@ -10,10 +10,10 @@ use mathlib.Core.List.{List}
 use lib.Dec.{leb}
 use borrow.Author.Tests.{ne-eqb, lt-leb, leb-false}
 use Rattle.basics.specs.Choice.{pick}
-use Rattle.casefile.specs.Member.{memberAt, thenMember, memberFound}
-use Rattle.casefile.specs.declared.Member.{Member}
-use Rattle.casefile.specs.declared.Member.the-variants.{Read, Wrong}
-use Rattle.casefile.specs.declared.MemberPlace.{MemberPlace}
+use Rattle.tables.specs.Member.{memberAt, thenMember, memberFound}
+use Rattle.tables.specs.declared.Member.{Member}
+use Rattle.tables.specs.declared.Member.the-variants.{Read, Wrong}
+use Rattle.tables.specs.declared.MemberPlace.{MemberPlace}
 use Rattle.index.specs.Index.{bucketOf, skipped, foundIn}
 use Rattle.index.specs.declared.Rest.{Rest}
 

@@ -1,9 +1,9 @@
 // An index over a member run: a table with a place for every so many pool indexes, so that a lookup need not begin at the
 // run's start. A table takes any number of cells and need not fit the run: it is made in one pass, and a lookup by it reads
 // no cell that it has not.
-use casefile::Member;
+use tables::Member;
 ghost use mathlib.Core.Path.{_≡_};
-ghost use Rattle.casefile.specs.Member.{memberFound};
+ghost use Rattle.tables.specs.Member.{memberFound};
 ghost use Rattle.index.specs.Index.{skipped, Tabled, Indexed, foundBy};
 
 // How many pool indexes share a bucket.
@@ -24,7 +24,7 @@ fn skip_to(members: &[u8], from: usize, above: usize, count: usize, bucket: usiz
     let mut last = above;
     let mut left = count;
     while 0 < left {
-        let Member::Read(member) = casefile::read_member(members, at, last) else {
+        let Member::Read(member) = tables::read_member(members, at, last) else {
             return Rest { at, last, left };
         };
         if bucket <= member.index / WIDTH {
@@ -59,7 +59,7 @@ pub fn index_members(members: &[u8], count: usize, table: &mut [usize])
     }
 }
 
-// The part that holds the three texts of the member with a pool index and kind, as `casefile::find_member` hands it back, by
+// The part that holds the three texts of the member with a pool index and kind, as `tables::find_member` hands it back, by
 // a table of the run.
 pub fn find_indexed<'a>(
     members: &'a [u8],
@@ -77,7 +77,7 @@ pub fn find_indexed<'a>(
         let from = table[3 * bucket];
         let above = table[3 * bucket + 1];
         let left = table[3 * bucket + 2];
-        return casefile::find_from(members, from, above, left, index, kind);
+        return tables::find_from(members, from, above, left, index, kind);
     }
-    casefile::find_from(members, 0, 0, count, index, kind)
+    tables::find_from(members, 0, 0, count, index, kind)
 }

@@ -6,7 +6,7 @@ use mathlib.Core.Bool.{Bool, true, false}
 use mathlib.Core.List.{List, [], _∷_, _++_}
 use lib.Dec.{T}
 use Rattle.basics.specs.Choice.{pick}
-use Rattle.casefile.specs.declared.RecordPlace.{RecordPlace}
+use Rattle.tables.specs.declared.RecordPlace.{RecordPlace}
 use Rattle.locals.specs.First.{Matches, FirstOf, Means, FirstMatchDeclared}
 use Rattle.locals.specs.Name.{covers, firstMatch}
 use Rattle.locals.specs.declared.NamePlace.{NamePlace}

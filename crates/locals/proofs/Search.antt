@@ -7,9 +7,9 @@ use native.Mathlib.Omega.{arith}
 use mathlib.Core.Path.{_≡_, refl}
 use mathlib.Core.Bool.{Bool, true, false}
 use mathlib.Core.List.{List, _∷_}
-use Rattle.casefile.specs.LocalRecord.{recordAt, recordsIn}
-use Rattle.casefile.specs.declared.LocalRecord.the-variants.{Read, Wrong}
-use Rattle.casefile.specs.declared.RecordPlace.{RecordPlace}
+use Rattle.tables.specs.LocalRecord.{recordAt, recordsIn}
+use Rattle.tables.specs.declared.LocalRecord.the-variants.{Read, Wrong}
+use Rattle.tables.specs.declared.RecordPlace.{RecordPlace}
 use Rattle.locals.specs.Name.{covers, firstMatch}
 use Rattle.locals.specs.declared.NamePlace.the-variants.{Name, Unnamed}
 

@@ -4,7 +4,7 @@ use Prim.Native.Nat.{ℕ}
 use mathlib.Core.Path.{_≡_}
 use mathlib.Core.List.{List, [], _∷_, _++_}
 use lib.Dec.{T}
-use Rattle.casefile.specs.declared.RecordPlace.{RecordPlace}
+use Rattle.tables.specs.declared.RecordPlace.{RecordPlace}
 use Rattle.locals.specs.Name.{covers, firstMatch}
 use Rattle.locals.specs.declared.NamePlace.{NamePlace}
 use Rattle.locals.specs.declared.NamePlace.the-variants.{Name, Unnamed}

@@ -9,8 +9,8 @@ use lib.Dec.{eqb, leb, ltb}
 use lib.ListN.{take, drop}
 use Rattle.basics.specs.Ascii.{ascii}
 use Rattle.basics.specs.Choice.{pick, both}
-use Rattle.casefile.specs.LocalRecord.{recordsIn}
-use Rattle.casefile.specs.declared.RecordPlace.{RecordPlace}
+use Rattle.tables.specs.LocalRecord.{recordsIn}
+use Rattle.tables.specs.declared.RecordPlace.{RecordPlace}
 use Rattle.descriptor.specs.Readers.{parameterAt}
 use Rattle.descriptor.specs.Search.{firstFrom}
 use Rattle.descriptor.specs.declared.Found.{Found}

@@ -1,6 +1,6 @@
 // The name of a local (document 01, "Action and cause"), over the record run and the signature of a case's parts.
-use casefile::LocalRecord;
 use descriptor::Found;
+use tables::LocalRecord;
 use text::put_at;
 use text::put_decimal_at;
 ghost use mathlib.Core.Path.{_≡_};
@@ -9,7 +9,7 @@ ghost use Prim.Native.Nat.{_≤_};
 ghost use lib.ListN.{length};
 ghost use lib.Dec.{eqb};
 ghost use Rattle.basics.specs.Choice.{both};
-ghost use Rattle.casefile.specs.LocalRecord.{recordsIn};
+ghost use Rattle.tables.specs.LocalRecord.{recordsIn};
 ghost use Rattle.text.specs.Decimal.{decimal};
 ghost use Rattle.text.specs.Writing.{Written};
 ghost use Rattle.locals.specs.Name.{covers, firstMatch, nameInside, signatureParameter, numberedName, unnamed, localName};
@@ -40,7 +40,7 @@ pub fn find_record(records: &[u8], count: usize, slot: usize, load: usize) -> Na
     let mut at = 0;
     let mut left = count;
     while 0 < left {
-        let LocalRecord::Read(local) = casefile::read_record(records, at) else {
+        let LocalRecord::Read(local) = tables::read_record(records, at) else {
             return NamePlace::Unnamed;
         };
         if covers_load(local.start, local.length, local.slot, slot, load) {

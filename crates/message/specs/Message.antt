@@ -5,8 +5,8 @@ use mathlib.Core.Bool.{Bool}
 use mathlib.Core.List.{List, [], _∷_, _++_}
 use lib.ListN.{getD}
 use Rattle.basics.specs.Ascii.{ascii}
-use Rattle.casefile.specs.Member.{memberFound}
-use Rattle.casefile.specs.Text.{classOf, nameOf, descriptorOf}
+use Rattle.items.specs.Text.{classOf, nameOf, descriptorOf}
+use Rattle.tables.specs.Member.{memberFound}
 use Rattle.names.specs.Names.{className, parameterNames}
 use Rattle.locals.specs.Name.{localName}
 use Rattle.block.specs.declared.Slot.{Slot}

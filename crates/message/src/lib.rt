@@ -45,9 +45,9 @@ fn put_array_at(out: &mut [u8], at: usize, words: &[u8], element: usize) -> usiz
 fn put_method_at(out: &mut [u8], at: usize, texts: &[u8]) -> usize
     ensures { λ r. ⌜ Written at (methodText (now (texts .entry))) (now (out .entry)) r (now (out .exit)) ⌝ }
 {
-    let dot = names::put_class_at(out, at, casefile::class_of(texts));
+    let dot = names::put_class_at(out, at, items::class_of(texts));
     let name = put_at(out, dot, b".");
-    put_at(out, name, casefile::name_of(texts))
+    put_at(out, name, items::name_of(texts))
 }
 
 // The invocation of a method: its class, its name and its parameter types, of the part that holds its texts.
@@ -57,7 +57,7 @@ fn put_invoke_at(out: &mut [u8], at: usize, texts: &[u8]) -> usize
     let method = put_at(out, at, b"Cannot invoke \"");
     let open = put_method_at(out, method, texts);
     let params = put_at(out, open, b"(");
-    let close = names::put_params_at(out, params, casefile::descriptor_of(texts));
+    let close = names::put_params_at(out, params, items::descriptor_of(texts));
     put_at(out, close, b")\"")
 }
 
@@ -67,17 +67,17 @@ fn put_action_at(out: &mut [u8], at: usize, members: &[u8], count: usize, action
 {
     match action {
         Action::ReadField { index } => {
-            let texts = casefile::find_member(members, count, index, 0);
-            put_quoted_at(out, at, b"Cannot read field ", casefile::name_of(texts))
+            let texts = tables::find_member(members, count, index, 0);
+            put_quoted_at(out, at, b"Cannot read field ", items::name_of(texts))
         }
         Action::AssignField { index } => {
-            let texts = casefile::find_member(members, count, index, 0);
-            put_quoted_at(out, at, b"Cannot assign field ", casefile::name_of(texts))
+            let texts = tables::find_member(members, count, index, 0);
+            put_quoted_at(out, at, b"Cannot assign field ", items::name_of(texts))
         }
         Action::Invoke { index } => put_invoke_at(
             out,
             at,
-            casefile::find_member(members, count, index, 1),
+            tables::find_member(members, count, index, 1),
         ),
         Action::LoadArray { element } => put_array_at(out, at, b"Cannot load from ", element),
         Action::StoreArray { element } => put_array_at(out, at, b"Cannot store to ", element),

@@ -5,7 +5,7 @@ use native.Mathlib.Omega.{arith}
 use mathlib.Core.Path.{_≡_, refl}
 use Rattle.bounds.proofs.Counts.{counts-small}
 use Rattle.bounds.specs.Counts.{Small}
-use Rattle.casefile.specs.Number.{greatest}
+use Rattle.items.specs.Number.{greatest}
 use Rattle.ffi.specs.Numbers.{low, reportNumbers}
 use Rattle.report.specs.Report.{reportOf, numbered}
 use Rattle.report.specs.declared.Report.{Report}

@@ -7,10 +7,10 @@ use mathlib.Core.List.{List, [], _∷_}
 use mathlib.Core.Path.{_∙_, ap}
 use lib.ListN.{length}
 use lib.Seq.{take-all}
-use Rattle.casefile.specs.LocalRecord.{recordAt, recordsIn, thenRecord}
-use Rattle.casefile.specs.declared.LocalRecord.{LocalRecord}
-use Rattle.casefile.specs.declared.LocalRecord.the-variants.{Read, Wrong}
-use Rattle.casefile.specs.declared.RecordPlace.{RecordPlace}
+use Rattle.tables.specs.LocalRecord.{recordAt, recordsIn, thenRecord}
+use Rattle.tables.specs.declared.LocalRecord.{LocalRecord}
+use Rattle.tables.specs.declared.LocalRecord.the-variants.{Read, Wrong}
+use Rattle.tables.specs.declared.RecordPlace.{RecordPlace}
 use Rattle.locals.specs.Name.{firstMatch}
 use Rattle.records.specs.Agree.{SearchesAgree}
 use Rattle.records.proofs.Eights.{run-match}

@@ -9,10 +9,10 @@ use lib.ListN.{length, take, drop, getD, take-append-drop}
 use lib.Dec.{eqb, leb}
 use borrow.Author.Tests.{le-ltb}
 use Rattle.basics.specs.Choice.{pick, both}
-use Rattle.casefile.specs.LocalRecord.{recordAt, recordsIn, recordWithin, thenRecord}
-use Rattle.casefile.specs.declared.LocalRecord.{LocalRecord as Item}
-use Rattle.casefile.specs.declared.LocalRecord.the-variants.{Read, Wrong}
-use Rattle.casefile.specs.declared.RecordPlace.{RecordPlace}
+use Rattle.tables.specs.LocalRecord.{recordAt, recordsIn, recordWithin, thenRecord}
+use Rattle.tables.specs.declared.LocalRecord.{LocalRecord as Item}
+use Rattle.tables.specs.declared.LocalRecord.the-variants.{Read, Wrong}
+use Rattle.tables.specs.declared.RecordPlace.{RecordPlace}
 use Rattle.locals.specs.Name.{covers, firstMatch}
 use Rattle.locals.specs.declared.NamePlace.{NamePlace}
 use Rattle.locals.specs.declared.NamePlace.the-variants.{Name, Unnamed}

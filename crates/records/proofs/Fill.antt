@@ -8,10 +8,10 @@ use mathlib.Core.Path.{_≡_, refl, sym, _∙_, ap}
 use mathlib.Core.List.{List, [], _∷_, _++_, append-nil}
 use lib.ListN.{length, take, set}
 use lib.Seq.{take-all}
-use Rattle.casefile.specs.LocalRecord.{recordAt, recordsIn, thenRecord}
-use Rattle.casefile.specs.declared.LocalRecord.{LocalRecord as Reading′}
-use Rattle.casefile.specs.declared.LocalRecord.the-variants.{Read, Wrong}
-use Rattle.casefile.specs.declared.RecordPlace.{RecordPlace}
+use Rattle.tables.specs.LocalRecord.{recordAt, recordsIn, thenRecord}
+use Rattle.tables.specs.declared.LocalRecord.{LocalRecord as Reading′}
+use Rattle.tables.specs.declared.LocalRecord.the-variants.{Read, Wrong}
+use Rattle.tables.specs.declared.RecordPlace.{RecordPlace}
 use Rattle.records.specs.Run.{noMore, readTo, nextOf, readNext, runOf}
 use Rattle.records.specs.declared.LocalRecord.{LocalRecord}
 use Rattle.records.specs.declared.Reading.{Reading}

@@ -10,7 +10,7 @@ use lib.ListN.{length, getD, drop, drop-of-length-le}
 use lib.Dec.{ltb}
 use borrow.Author.Tests.{lt-ltb, le-ltb, ltb-true, ltb-false}
 use Rattle.basics.specs.Choice.{pick}
-use Rattle.casefile.specs.declared.RecordPlace.{RecordPlace}
+use Rattle.tables.specs.declared.RecordPlace.{RecordPlace}
 use Rattle.locals.specs.Name.{covers, firstMatch}
 use Rattle.locals.specs.declared.NamePlace.{NamePlace}
 use Rattle.locals.specs.declared.NamePlace.the-variants.{Name, Unnamed}

@@ -7,16 +7,16 @@ use mathlib.Core.List.{List, [], _∷_}
 use mathlib.Core.Path.{_≡_, refl, sym, subst}
 use lib.ListN.{length}
 use Rattle.basics.specs.Choice.{pick}
-use Rattle.casefile.specs.LocalRecord.{recordAt, recordsIn, recordWithin, thenRecord}
-use Rattle.casefile.specs.Number.{greatest, numberAt, numberWithin, thenNumber}
-use Rattle.casefile.specs.Text.{textAt, textWithin, thenText}
-use Rattle.casefile.specs.declared.LocalRecord.{LocalRecord}
-use Rattle.casefile.specs.declared.LocalRecord.the-variants.{Read, Wrong}
-use Rattle.casefile.specs.declared.Number.{Number}
-use Rattle.casefile.specs.declared.Number.the-variants.{Value, NotNumber}
-use Rattle.casefile.specs.declared.Text.{Text}
-use Rattle.casefile.specs.declared.Text.the-variants.{Place, NotText}
-use Rattle.casefile.proofs.Laws.{number-within, text-within}
+use Rattle.items.specs.Number.{greatest, numberAt, numberWithin, thenNumber}
+use Rattle.items.specs.Text.{textAt, textWithin, thenText}
+use Rattle.items.specs.declared.Number.{Number}
+use Rattle.items.specs.declared.Number.the-variants.{Value, NotNumber}
+use Rattle.items.specs.declared.Text.{Text}
+use Rattle.items.specs.declared.Text.the-variants.{Place, NotText}
+use Rattle.items.proofs.Laws.{number-within, text-within}
+use Rattle.tables.specs.LocalRecord.{recordAt, recordsIn, recordWithin, thenRecord}
+use Rattle.tables.specs.declared.LocalRecord.{LocalRecord}
+use Rattle.tables.specs.declared.LocalRecord.the-variants.{Read, Wrong}
 use Rattle.locals.specs.Name.{covers, firstMatch, nameInside}
 use Rattle.locals.specs.declared.NamePlace.{NamePlace}
 use Rattle.locals.specs.declared.NamePlace.the-variants.{Name}

@@ -3,7 +3,7 @@
 use Prim.Native.Nat.{ℕ, _≤_}
 use mathlib.Core.List.{List}
 use mathlib.Core.Path.{_≡_}
-use Rattle.casefile.specs.LocalRecord.{recordsIn}
+use Rattle.tables.specs.LocalRecord.{recordsIn}
 use Rattle.locals.specs.Name.{firstMatch}
 use Rattle.records.specs.Run.{viewedAll, runOf}
 

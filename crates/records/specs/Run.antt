@@ -3,8 +3,8 @@
 -- Assumes nothing.
 use Prim.Native.Nat.{ℕ, zero, suc, _-_}
 use mathlib.Core.List.{List, [], _∷_, map}
-use Rattle.casefile.specs.LocalRecord.{recordAt, thenRecord}
-use Rattle.casefile.specs.declared.RecordPlace.{RecordPlace}
+use Rattle.tables.specs.LocalRecord.{recordAt, thenRecord}
+use Rattle.tables.specs.declared.RecordPlace.{RecordPlace}
 use Rattle.locals.specs.declared.NamePlace.{NamePlace}
 use Rattle.locals.specs.declared.NamePlace.the-variants.{Name, Unnamed}
 use Rattle.records.specs.declared.LocalRecord.{LocalRecord}

@@ -5,7 +5,7 @@ ghost use Prim.Native.Nat.{_-_};
 ghost use mathlib.Core.Path.{_≡_};
 ghost use mathlib.Core.List.{_∷_, []};
 ghost use lib.ListN.{length};
-ghost use Rattle.casefile.specs.LocalRecord.{recordsIn};
+ghost use Rattle.tables.specs.LocalRecord.{recordsIn};
 ghost use Rattle.locals.specs.Name.{covers, firstMatch, nameInside};
 ghost use Rattle.records.specs.Run.{viewed, viewedAll, orElse, readNext, runOf};
 
@@ -97,7 +97,7 @@ fn read_next(bytes: &[u8], reading: Reading) -> Reading
     if reading.left == 0 {
         return NO_MORE;
     }
-    let casefile::LocalRecord::Read(place) = casefile::read_record(bytes, reading.at) else {
+    let tables::LocalRecord::Read(place) = tables::read_record(bytes, reading.at) else {
         return NO_MORE;
     };
     Reading {

@@ -1,10 +1,10 @@
 // Prints what the case reader answers: the 65 bytes of the program's example and the lookup of its member, every way in
 // which an item can be wrong, and the limits of numbers, texts and the case.
 use casefile::Case;
-use casefile::LocalRecord;
-use casefile::Number;
 use casefile::Places;
+use items::Number;
 use libc::STDOUT_FILENO;
+use tables::LocalRecord;
 
 fn say(text: &[u8]) {
     io::write_all(STDOUT_FILENO, text);
@@ -55,7 +55,7 @@ fn show(what: &[u8], bytes: &[u8]) {
 // The number that the bytes start with.
 fn show_number(what: &[u8], bytes: &[u8], limit: usize) {
     say(what);
-    match casefile::read_number(bytes, 0, limit) {
+    match items::read_number(bytes, 0, limit) {
         Number::Value(v, next) => {
             say_number(b": ", v);
             say_number(b", then ", next);
@@ -67,19 +67,19 @@ fn show_number(what: &[u8], bytes: &[u8], limit: usize) {
 
 // A lookup, and the three texts of the part that it hands back.
 fn show_member(what: &[u8], members: &[u8], count: usize, index: usize, kind: usize) {
-    let part = casefile::find_member(members, count, index, kind);
+    let part = tables::find_member(members, count, index, kind);
     say(what);
     say_number(b": ", part.len());
-    say_part(b", class ", casefile::class_of(part));
-    say_part(b", name ", casefile::name_of(part));
-    say_part(b", descriptor ", casefile::descriptor_of(part));
+    say_part(b", class ", items::class_of(part));
+    say_part(b", name ", items::name_of(part));
+    say_part(b", descriptor ", items::descriptor_of(part));
     say(b"\n");
 }
 
 // The record at a place of a run.
 fn show_record(what: &[u8], records: &[u8], at: usize) {
     say(what);
-    match casefile::read_record(records, at) {
+    match tables::read_record(records, at) {
         LocalRecord::Read(r) => {
             say_number(b": ", r.start);
             say_number(b" ", r.length);

@@ -21,10 +21,10 @@ use Rattle.descriptor.specs.Readers.{slotsOf, judged, parameters, closing, slot
 use Rattle.descriptor.specs.Search.{firstIn, firstFrom}
 use Rattle.descriptor.specs.Types.{brackets, typeBehind, fieldTypeAt, typeSlots, typesFrom, typesAt, typesOf}
 use Rattle.descriptors.specs.Lenient.{occurs}
-use Rattle.casefile.specs.Layout.{runBy}
-use Rattle.casefile.specs.Member.{memberAt, memberFound}
-use Rattle.casefile.specs.Number.{numberFrom, numberAt}
-use Rattle.casefile.specs.Text.{textAt, textPart, afterText, descriptorOf}
+use Rattle.items.specs.Number.{numberFrom, numberAt}
+use Rattle.items.specs.Text.{textAt, textPart, afterText, descriptorOf}
+use Rattle.tables.specs.Layout.{runBy}
+use Rattle.tables.specs.Member.{memberAt, memberFound}
 use Rattle.effects.specs.Depth.{ruleOf, depthOf, at}
 use Rattle.effects.specs.Lookup.{lookupIn, known}
 use Rattle.effects.specs.Rows.{rowOf}

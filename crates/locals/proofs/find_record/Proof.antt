@@ -4,9 +4,9 @@ use native.Mathlib.Omega.{arith}
 use mathlib.Core.Path.{_≡_, refl, _∙_, sym, subst}
 use lib.ListN.{length}
 use borrow.Author.Needs.{needs}
-use Rattle.casefile.specs.LocalRecord.{recordAt, recordWithin, recordsIn}
-use Rattle.casefile.specs.declared.LocalRecord.{LocalRecord}
-use Rattle.casefile.specs.declared.LocalRecord.the-variants.{Read}
+use Rattle.tables.specs.LocalRecord.{recordAt, recordWithin, recordsIn}
+use Rattle.tables.specs.declared.LocalRecord.{LocalRecord}
+use Rattle.tables.specs.declared.LocalRecord.the-variants.{Read}
 use Rattle.locals.specs.Name.{firstMatch}
 use Rattle.locals.proofs.Search.{none-left, unread-ends, matches, passes}
 use Rattle.locals.proofs.find_record.Statement.{statement}

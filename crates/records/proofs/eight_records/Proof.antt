@@ -50,7 +50,7 @@ use denote.Triple.Table.{entered, cited}
 use denote.Triple.Walked.{says, Stays, stay-none, stay-none-slice, walkOf, goes-none, goes-none-slice, Walks, ends-at, walked}
 use denote.Triple.Walked.{walk-meets}
 use denote.Exit.{yes}
-use Rattle.casefile.specs.LocalRecord.{recordsIn}
+use Rattle.tables.specs.LocalRecord.{recordsIn}
 use Rattle.records.specs.Run.{blank, runOf}
 use Rattle.records.specs.declared.LocalRecord.{LocalRecord}
 use Rattle.records.proofs.Machine.{vals, blank-is}

@@ -56,7 +56,7 @@ use denote.Triple.Table.{entered, cited}
 use denote.Triple.Walked.{says, Stays, stay-none, stay-slice, stay-none-slice, walkOf, goes-none, goes-slice, goes-none-slice}
 use denote.Triple.Walked.{Walks, ends-at, walked, walk-meets}
 use denote.Exit.{yes}
-use Rattle.casefile.specs.LocalRecord.{recordsIn}
+use Rattle.tables.specs.LocalRecord.{recordsIn}
 use Rattle.records.specs.Run.{blank, readNext, runOf}
 use Rattle.records.specs.declared.LocalRecord.{LocalRecord}
 use Rattle.records.specs.declared.Reading.{Reading}

@@ -5,7 +5,7 @@ use native.Mathlib.Omega.{arith}
 use mathlib.Core.Path.{_≡_, refl, _∙_, sym, ap}
 use lib.ListN.{getD}
 use borrow.Author.Needs.{needs}
-use Rattle.casefile.specs.LocalRecord.{recordsIn}
+use Rattle.tables.specs.LocalRecord.{recordsIn}
 use Rattle.locals.specs.Name.{firstMatch}
 use Rattle.locals.proofs.Search.{none-left}
 use Rattle.records.specs.Run.{blank}

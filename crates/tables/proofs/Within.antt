@@ -1,0 +1,49 @@
+-- A run that starts in the bytes ends in them, whatever its layout.
+-- Assumes nothing.
+use Prim.Native.Nat.{ℕ, _+_, _≤_}
+use native.Mathlib.Omega.{arith}
+use mathlib.Core.Bool.{Bool, true, false}
+use mathlib.Core.List.{List}
+use lib.ListN.{length}
+use Rattle.basics.specs.Choice.{pick}
+use Rattle.items.specs.Number.{greatest, numberAt, numberWithin, thenNumber}
+use Rattle.items.specs.Text.{textAt, thenText, textWithin}
+use Rattle.items.specs.declared.Number.{Number}
+use Rattle.items.specs.declared.Number.the-variants.{Value, NotNumber}
+use Rattle.items.specs.declared.Text.{Text}
+use Rattle.items.specs.declared.Text.the-variants.{Place, NotText}
+use Rattle.items.proofs.Laws.{number-within, text-within}
+use Rattle.tables.specs.Layout.{Layout, number, text, ended, runBy, runWithin}
+use Rattle.tables.specs.declared.Run.{Run}
+use Rattle.tables.specs.declared.Run.the-variants.{End, Wrong}
+
+later-within : (size at next : ℕ) → at ≤ next → next ≤ size → (r : Run) → runWithin size next r → runWithin size at r
+later-within size at next later inside (End end) h = (omega arith, λ start. h .1 inside)
+later-within size at next later inside (Wrong place) h = tt
+
+pub run-within : (layout : Layout) (bytes : List ℕ) (at : ℕ) → runWithin (length bytes) at (runBy layout bytes at)
+unfolding runBy
+run-within ended bytes at = (omega arith, λ inside. inside)
+run-within (number right following) bytes at =
+    of (numberAt greatest bytes at) (number-within greatest bytes at) (λ v next. run-within (following v) bytes next)
+  where
+    of :
+        (n : Number) → numberWithin greatest (length bytes) at n →
+        ((v next : ℕ) → runWithin (length bytes) next (runBy (following v) bytes next)) →
+        runWithin (length bytes) at (thenNumber n (Wrong at) (λ v next. pick (right v) (runBy (following v) bytes next) (Wrong at)))
+    of (Value v next) h rest = by-test (right v)
+      where
+        by-test : (t : Bool) → runWithin (length bytes) at (pick t (runBy (following v) bytes next) (Wrong at))
+        by-test true = later-within (length bytes) at next (omega arith) (h .2) (runBy (following v) bytes next) (rest v next)
+        by-test false = tt
+    of NotNumber h rest = tt
+run-within (text following) bytes at =
+    of (textAt bytes at) (text-within bytes at) (λ next. run-within following bytes next)
+  where
+    of :
+        (t : Text) → textWithin (length bytes) at t →
+        ((next : ℕ) → runWithin (length bytes) next (runBy following bytes next)) →
+        runWithin (length bytes) at (thenText t (Wrong at) (λ start size. runBy following bytes (start + size)))
+    of (Place start size) h rest =
+        later-within (length bytes) at (start + size) (omega arith) (h .2) (runBy following bytes (start + size)) (rest (start + size))
+    of NotText h rest = tt

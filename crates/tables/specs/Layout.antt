@@ -1,0 +1,73 @@
+-- The layout of a case (document 01, "The case"): which item is due, number or text, in which order and by which rule; and
+-- how bytes are read by a layout.
+-- Assumes nothing.
+use Prim.Native.Nat.{ℕ, zero, suc, _+_, _≤_}
+use mathlib.Core.Bool.{Bool, true}
+use mathlib.Core.List.{List}
+use lib.Dec.{ltb, leb}
+use Rattle.basics.specs.Choice.{pick}
+use Rattle.items.specs.Number.{greatest, numberAt, thenNumber}
+use Rattle.items.specs.Text.{textAt, thenText}
+use Rattle.tables.specs.declared.Run.{Run}
+use Rattle.tables.specs.declared.Run.the-variants.{End, Wrong}
+
+-- what is due, and what is due after it: a number that passes a test, a text, or nothing more
+pub data Layout : Type 0 where
+  number : (ℕ → Bool) → (ℕ → Layout) → Layout
+  text : Layout → Layout
+  ended : Layout
+
+-- a number with no rule of its own
+abbrev pub any : ℕ → Bool
+any v = true
+
+-- "class text, name text, descriptor text"
+abbrev pub threeTexts : Layout → Layout
+threeTexts following = text (text (text following))
+
+-- "A member: pool index, kind (0 field, 1 method), class text, name text, descriptor text." Its pool index is above the last.
+abbrev pub memberThen : ℕ → (ℕ → Layout) → Layout
+memberThen last following =
+    number (λ index. ltb last index) (λ index. number (λ kind. leb kind 1) (λ kind. threeTexts (following index)))
+
+-- so many members: "Pool indexes are above 0 and strictly rise."
+unfoldable pub membersThen : ℕ → ℕ → Layout → Layout
+membersThen zero last following = following
+membersThen (suc count) last following = memberThen last (λ index. membersThen count index following)
+
+-- "A local record: start, length, slot, name text."
+abbrev pub recordThen : Layout → Layout
+recordThen following = number any (λ start. number any (λ size. number any (λ slot. text following)))
+
+-- so many local records
+unfoldable pub recordsThen : ℕ → Layout → Layout
+recordsThen zero following = following
+recordsThen (suc count) following = recordThen (recordsThen count following)
+
+-- "member count, members, record count, local records, and nothing after"
+unfoldable pub tablesLayout : Layout
+tablesLayout = number any (λ members. membersThen members 0 (number any (λ records. recordsThen records ended)))
+
+-- "A case holds, in order: access flags, faulting index, code text, name signature text, .."
+unfoldable pub caseLayout : Layout
+caseLayout = number any (λ flags. number any (λ fault. text (text tablesLayout)))
+
+-- ---- reading by a layout
+
+-- from a place on: the place after the last item, or the place of the first wrong one
+unfoldable pub runBy : Layout → List ℕ → ℕ → Run
+runBy ended bytes at = End at
+runBy (number right following) bytes at =
+    thenNumber (numberAt greatest bytes at) (Wrong at) (λ v next. pick (right v) (runBy (following v) bytes next) (Wrong at))
+runBy (text following) bytes at =
+    thenText (textAt bytes at) (Wrong at) (λ start size. runBy following bytes (start + size))
+
+-- what follows a run, or the answer at its first wrong item
+abbrev pub thenRun : {A : Type 0} → Run → (ℕ → A) → (ℕ → A) → A
+thenRun (End end) wrong following = following end
+thenRun (Wrong place) wrong following = wrong place
+
+-- a run that starts in the bytes ends in them
+abbrev pub runWithin : ℕ → ℕ → Run → Type 0
+runWithin size at (End end) = (at ≤ end) × (at ≤ size → end ≤ size)
+runWithin size at (Wrong place) = Unit {0}

@@ -1,0 +1,4 @@
+pub mod Layout
+pub mod LocalRecord
+pub mod Member
+pub mod Tables
