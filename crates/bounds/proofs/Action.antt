@@ -17,7 +17,9 @@ use Rattle.block.specs.declared.Slot.{Slot}
 use Rattle.block.specs.declared.Slot.the-variants.{Other, Loaded}
 use Rattle.fault.specs.declared.Action.{Action}
 use Rattle.fault.specs.declared.Action.the-variants.{ReadField, AssignField, Invoke, LoadArray, StoreArray, ReadLength, ThrowException, EnterBlock, ExitBlock}
-use Rattle.message.specs.Message.{elementText, quoted, methodText, invokeText, arrayText, actionText, causeText}
+use Rattle.action.specs.Action.{actionText}
+use Rattle.message.specs.Message.{causeText}
+use Rattle.words.specs.Words.{elementText, quoted, methodText, invokeText, arrayText}
 use Rattle.bounds.proofs.Names.{widest, class-within, parameters-within}
 use Rattle.bounds.proofs.Texts.{Within, none-within, entry-within, text-within, found-within, local-within}
 

@@ -34,11 +34,12 @@ use Rattle.block.specs.declared.Slot.the-variants.{Other, Loaded}
 use Rattle.fault.specs.Decoding.{decoded}
 use Rattle.fault.specs.declared.Fault.{Fault}
 use Rattle.fault.specs.declared.Fault.the-variants.{Failed, Nothing}
-use Rattle.report.specs.Report.{kindOf, messageOf, Said, silent, roomless, said, saidBy, saidAt, saidOf, needed, answerBy, answerOf, reportOf}
-use Rattle.report.specs.Trace.{traceOf, tracedBy, traced}
-use Rattle.report.specs.declared.Report.the-variants.{Message, NoOutput}
-use Rattle.report.specs.declared.Trace.{Trace}
-use Rattle.report.specs.declared.Trace.the-variants.{NoRoom, Traced}
+use Rattle.answer.specs.Answer.{kindOf, Said, silent, roomless, said, needed, answerBy}
+use Rattle.report.specs.Report.{messageOf, saidBy, saidAt, saidOf, answerOf, reportOf}
+use Rattle.trace.specs.Trace.{traceOf, tracedBy, traced}
+use Rattle.answer.specs.declared.Report.the-variants.{Message, NoOutput}
+use Rattle.trace.specs.declared.Trace.{Trace}
+use Rattle.trace.specs.declared.Trace.the-variants.{NoRoom, Traced}
 use Rattle.bounds.specs.Counts.{Small, CountsSmall}
 
 -- ---- the scan

@@ -15,8 +15,10 @@ use Rattle.casefile.specs.Whole.{placesIn, longest, caseOf}
 use Rattle.casefile.specs.declared.Case.the-variants as cases
 use Rattle.casefile.specs.declared.Places.{Places}
 use Rattle.text.specs.Writing.{most}
-use Rattle.message.specs.Message.{actionText, causeText, messageText}
-use Rattle.report.specs.Report.{isInstance, messageOf}
+use Rattle.action.specs.Action.{actionText}
+use Rattle.message.specs.Message.{causeText, messageText}
+use Rattle.locals.specs.Name.{isInstance}
+use Rattle.report.specs.Report.{messageOf}
 use Rattle.bounds.specs.Needed.{MessageShort, NeededIsLength}
 use Rattle.bounds.proofs.Action.{much, action-within, cause-within}
 use Rattle.bounds.proofs.Texts.{Within, part-within}

@@ -6,8 +6,8 @@ use mathlib.Core.List.{List}
 use Rattle.basics.specs.Bytes.{AreBytes}
 use Rattle.items.specs.Number.{greatest}
 use Rattle.report.specs.Report.{reportOf}
-use Rattle.report.specs.declared.Report.{Report}
-use Rattle.report.specs.declared.Report.the-variants.{Message, NoMessage, Broken, NoRoom, NoOutput, TooLong}
+use Rattle.answer.specs.declared.Report.{Report}
+use Rattle.answer.specs.declared.Report.the-variants.{Message, NoMessage, Broken, NoRoom, NoOutput, TooLong}
 
 -- "kind (1 action, 2 action and cause), scan count, block count"
 abbrev pub Small : Report → Type 0

@@ -11,7 +11,8 @@ use Rattle.casefile.specs.declared.Places.{Places}
 use Rattle.text.specs.Writing.{most}
 use Rattle.block.specs.declared.Slot.{Slot}
 use Rattle.fault.specs.declared.Action.{Action}
-use Rattle.report.specs.Report.{messageOf, needed}
+use Rattle.answer.specs.Answer.{needed}
+use Rattle.report.specs.Report.{messageOf}
 
 -- the message of parts that are no longer than a case can be has a length of 64 bits
 abbrev pub MessageShort : Type 0

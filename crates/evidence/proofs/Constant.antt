@@ -30,10 +30,13 @@ use Rattle.block.specs.Room.{completedFrom, completed, blockWalk}
 use Rattle.block.specs.Walk.{step, walkFrom, walk}
 use Rattle.fault.specs.Decoding.{actionOf, decoded}
 use Rattle.locals.specs.Name.{firstMatch, signatureParameter, numberedName, localName}
-use Rattle.message.specs.Message.{actionText, causeText, messageText}
-use Rattle.report.specs.Report.{isInstance, messageOf, saidOf, reportOf, reportedIn, numbered}
-use Rattle.report.specs.Trace.{slotFrom, traced}
-use Rattle.report.specs.declared.Report.the-variants.{Message, Broken}
+use Rattle.action.specs.Action.{actionText}
+use Rattle.message.specs.Message.{causeText, messageText}
+use Rattle.answer.specs.Answer.{numbered}
+use Rattle.locals.specs.Name.{isInstance}
+use Rattle.report.specs.Report.{messageOf, saidOf, reportOf, reportedIn}
+use Rattle.trace.specs.Trace.{slotFrom, traced}
+use Rattle.answer.specs.declared.Report.the-variants.{Message, Broken}
 use Rattle.evidence.specs.Constant.{reading, throwing, readingNull, blank, SmallCases, Lent, Always, Program, Meets, numberOf, NoConstant}
 
 pub small-cases : SmallCases

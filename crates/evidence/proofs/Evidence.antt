@@ -28,8 +28,9 @@ use Rattle.fault.specs.Decoding.{invokes, actionOf, constructs, failedAt, decod
 use Rattle.fault.specs.declared.Action.{Action}
 use Rattle.fault.specs.declared.Fault.the-variants.{Failed, Nothing}
 use Rattle.message.specs.Message.{causeText, messageText}
-use Rattle.report.specs.Report.{messageOf, Said, silent, roomless, said, saidOf, needed, answerBy, outputBy, reportOf, reportedIn}
-use Rattle.report.specs.declared.Report.the-variants.{Message, NoOutput}
+use Rattle.answer.specs.Answer.{Said, silent, roomless, said, needed, answerBy, outputBy}
+use Rattle.report.specs.Report.{messageOf, saidOf, reportOf, reportedIn}
+use Rattle.answer.specs.declared.Report.the-variants.{Message, NoOutput}
 use Rattle.truth.specs.Condition.{Findings, Premises}
 use Rattle.truth.specs.Translation.{since}
 use Rattle.truth.proofs.Cause.{cause-true}

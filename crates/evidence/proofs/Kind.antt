@@ -24,11 +24,13 @@ use Rattle.fault.specs.Decoding.{decoded}
 use Rattle.fault.specs.declared.Action.{Action}
 use Rattle.fault.specs.declared.Fault.{Fault}
 use Rattle.fault.specs.declared.Fault.the-variants.{Failed, Nothing}
-use Rattle.message.specs.Message.{actionText, causeText, messageText}
-use Rattle.report.specs.Report.{kindOf, messageOf, Said, said, saidBy, saidAt, saidOf}
-use Rattle.report.specs.Trace.{slotFrom, traceOf, tracedBy, traced}
-use Rattle.report.specs.declared.Trace.{Trace}
-use Rattle.report.specs.declared.Trace.the-variants.{NoRoom, Traced}
+use Rattle.action.specs.Action.{actionText}
+use Rattle.message.specs.Message.{causeText, messageText}
+use Rattle.answer.specs.Answer.{kindOf, Said, said}
+use Rattle.report.specs.Report.{messageOf, saidBy, saidAt, saidOf}
+use Rattle.trace.specs.Trace.{slotFrom, traceOf, tracedBy, traced}
+use Rattle.trace.specs.declared.Trace.{Trace}
+use Rattle.trace.specs.declared.Trace.the-variants.{NoRoom, Traced}
 use Rattle.evidence.specs.Kind.{Caused, KindTwo, ActionAlone, OneOrTwo}
 
 -- ---- kind 2 has a cause: what is said is taken apart, from the fault to the slot

@@ -8,9 +8,10 @@ use lib.ListN.{length, getD, replicate}
 use Rattle.basics.specs.Ascii.{ascii}
 use Rattle.basics.specs.Bytes.{AreBytes}
 use Rattle.text.specs.Writing.{over}
-use Rattle.report.specs.Report.{reportOf, reportedIn, numbered}
-use Rattle.report.specs.declared.Report.{Report}
-use Rattle.report.specs.declared.Report.the-variants.{Message, NoMessage, Broken, NoRoom, NoOutput}
+use Rattle.answer.specs.Answer.{numbered}
+use Rattle.report.specs.Report.{reportOf, reportedIn}
+use Rattle.answer.specs.declared.Report.{Report}
+use Rattle.answer.specs.declared.Report.the-variants.{Message, NoMessage, Broken, NoRoom, NoOutput}
 
 -- ---- cases that tell programs apart: static methods, no members, no records
 

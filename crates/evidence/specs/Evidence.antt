@@ -27,9 +27,11 @@ use Rattle.fault.specs.Decoding.{decoded}
 use Rattle.fault.specs.declared.Action.{Action}
 use Rattle.fault.specs.declared.Fault.the-variants.{Failed}
 use Rattle.locals.specs.Name.{localName}
-use Rattle.message.specs.Message.{actionText}
-use Rattle.report.specs.Report.{isInstance, said, saidOf, reportOf, reportedIn}
-use Rattle.report.specs.declared.Report.the-variants.{Message}
+use Rattle.action.specs.Action.{actionText}
+use Rattle.answer.specs.Answer.{said}
+use Rattle.locals.specs.Name.{isInstance}
+use Rattle.report.specs.Report.{saidOf, reportOf, reportedIn}
+use Rattle.answer.specs.declared.Report.the-variants.{Message}
 use Rattle.truth.specs.Condition.{InBlock, Described}
 use Rattle.truth.specs.Translation.{since, HeldWhen}
 

@@ -16,8 +16,9 @@ use Rattle.block.specs.declared.Slot.the-variants.{Loaded}
 use Rattle.fault.specs.Decoding.{decoded}
 use Rattle.fault.specs.declared.Action.{Action}
 use Rattle.fault.specs.declared.Fault.the-variants.{Failed}
-use Rattle.message.specs.Message.{actionText}
-use Rattle.report.specs.Report.{messageOf, said, saidOf}
+use Rattle.action.specs.Action.{actionText}
+use Rattle.answer.specs.Answer.{said}
+use Rattle.report.specs.Report.{messageOf, saidOf}
 
 -- "A cause is given exactly when the walk succeeds, its height exceeds the depth, and the slot at that depth from the top is
 -- a load".

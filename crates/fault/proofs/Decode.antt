@@ -19,7 +19,8 @@ use Rattle.descriptor.specs.Readers.{parameters, fieldSlots}
 use Rattle.descriptor.specs.declared.Params.the-variants.{Read, Unreadable}
 use Rattle.effects.specs.Depth.{Rule, none, fixed, reads, writes, invokes as invokesRule, ruleOf, depthBy, depthOf}
 use Rattle.effects.specs.Lookup.{lookupIn}
-use Rattle.fault.specs.Decoding.{invokes, actionOf, constructs, failedAt, decoded, decodedAs}
+use Rattle.fault.specs.Decoding.{invokes, actionOf, constructs, failedAt, decoded}
+use Rattle.fault.specs.Inside.{decodedAs}
 use Rattle.fault.specs.declared.Action.the-variants.{ReadField, AssignField, Invoke, LoadArray, StoreArray}
 use Rattle.fault.specs.declared.Fault.the-variants.{Failed, Nothing}
 use Rattle.effects.proofs.Known.{known-none, known-some}

@@ -9,7 +9,7 @@ use Rattle.basics.specs.Bytes.{byteAt, u16At}
 use Rattle.basics.specs.Choice.{pick, both, oneOf, between, sameList}
 use Rattle.items.specs.Text.{nameOf}
 use Rattle.tables.specs.Member.{memberFound}
-use Rattle.effects.specs.Depth.{Depth, nowhere, at, ruleOf, depthBy, depthOf}
+use Rattle.effects.specs.Depth.{Depth, nowhere, at, depthOf}
 use Rattle.effects.specs.Lookup.{lookupIn}
 use Rattle.fault.specs.declared.Action.{Action}
 use Rattle.fault.specs.declared.Action.the-variants.{ReadField, AssignField, Invoke, LoadArray, StoreArray, ReadLength, ThrowException, EnterBlock, ExitBlock}
@@ -45,9 +45,3 @@ unfoldable pub decoded : List ℕ → List ℕ → ℕ → ℕ → Fault
 decoded code members count fault =
     pick (both (invokes (byteAt code fault)) (constructs members count (u16At code (fault + 1)))) Nothing
     (failedAt (depthOf (lookupIn members count) code fault) (actionOf (byteAt code fault) (u16At code (fault + 1))))
-
--- the same at an opcode inside the code
-unfoldable pub decodedAs : ℕ → List ℕ → List ℕ → ℕ → ℕ → Fault
-decodedAs op code members count fault =
-    pick (both (invokes op) (constructs members count (u16At code (fault + 1)))) Nothing
-    (failedAt (depthBy (ruleOf op) (lookupIn members count) code fault) (actionOf op (u16At code (fault + 1))))

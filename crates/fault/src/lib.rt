@@ -8,7 +8,8 @@ ghost use mathlib.Core.List.{[], _∷_};
 ghost use mathlib.Core.Path.{_≡_};
 ghost use lib.ListN.{length};
 ghost use Rattle.basics.specs.Choice.{pick, oneOf};
-ghost use Rattle.fault.specs.Decoding.{decoded, decodedAs};
+ghost use Rattle.fault.specs.Decoding.{decoded};
+ghost use Rattle.fault.specs.Inside.{decodedAs};
 ghost use Rattle.fault.specs.declared.Action.the-variants.{LoadArray, StoreArray};
 ghost use Rattle.fault.specs.declared.Fault.the-variants.{Failed};
 

@@ -25,9 +25,10 @@ use Rattle.descriptor.specs.declared.Slots.{Slots}
 use Rattle.descriptor.specs.declared.Slots.the-variants.{Slots as SlotsOf, Unreadable as NoSlots}
 use Rattle.locals.specs.Name.{localName}
 use Rattle.names.specs.Names.{parameterNames}
-use Rattle.report.specs.Report.{isInstance, Said, said, answerBy, outputBy, numbered as reportNumbered}
-use Rattle.report.specs.declared.Report.{Report}
-use Rattle.report.specs.declared.Report.the-variants.{Broken, TooLong}
+use Rattle.answer.specs.Answer.{Said, said, answerBy, outputBy, numbered as reportNumbered}
+use Rattle.locals.specs.Name.{isInstance}
+use Rattle.answer.specs.declared.Report.{Report}
+use Rattle.answer.specs.declared.Report.the-variants.{Broken, TooLong}
 use Rattle.ffi.specs.declared.KorsepalLeader.{KorsepalLeader}
 use Rattle.ffi.specs.declared.KorsepalLength.{KorsepalLength}
 use Rattle.ffi.specs.declared.KorsepalName.{KorsepalName}

@@ -1,4 +1,5 @@
 // The C interface of the library: numbers and slices in, structs of numbers out. Every function takes any input.
+use answer::Report;
 use block::Walk;
 use block::clear;
 use bytecode::Measure;
@@ -8,7 +9,6 @@ use descriptor::Slots;
 use items::part_at;
 use jdescriptor::Answer;
 use leader::Scan;
-use report::Report;
 ghost use mathlib.Core.Path.{_≡_};
 ghost use mathlib.Core.List.{[]};
 ghost use Prim.Native.Nat.{_-_, _^_, min};
@@ -22,7 +22,9 @@ ghost use Rattle.names.specs.Names.{parameterNames};
 ghost use Rattle.descriptor.specs.Readers.{parameters, returnSlots, fieldSlots};
 ghost use Rattle.descriptor.specs.declared.Slots.the-variants.{Slots as SlotsOf};
 ghost use Rattle.leader.specs.Scan.{blockLeader};
-ghost use Rattle.report.specs.Report.{isInstance, reportOf, reportedIn, answerBy, outputBy};
+ghost use Rattle.answer.specs.Answer.{answerBy, outputBy};
+ghost use Rattle.locals.specs.Name.{isInstance};
+ghost use Rattle.report.specs.Report.{reportOf, reportedIn};
 ghost use Rattle.ffi.specs.Numbers.{low, reportNumbers, lengthNumbers, leaderNumbers, slotNumbers};
 ghost use Rattle.ffi.specs.Numbers.{walkNumbers, caseWalk, caseCells, spoken, nameNumbers, caseName, caseNamed};
 ghost use Rattle.ffi.specs.Numbers.{parameterNumbers, parametersIn, listNumbers, strictNumbers};
@@ -410,7 +412,7 @@ pub extern "C" fn korsepal_local_name(
         Case::Parts(places) => {
             let records = part_at(case, places.records, places.records_length);
             let signature = part_at(case, places.signature, places.signature_length);
-            let instance = report::is_instance(places.flags);
+            let instance = locals::is_instance(places.flags);
             write_name(
                 output,
                 records,

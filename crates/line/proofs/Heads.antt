@@ -5,8 +5,8 @@ use mathlib.Core.Path.{_≡_, refl}
 use mathlib.Core.List.{_++_, append-assoc, append-nil}
 use Rattle.basics.specs.Ascii.{ascii}
 use Rattle.text.specs.Decimal.{digits, decimal}
-use Rattle.report.specs.Report.{numbered}
-use Rattle.report.specs.declared.Report.the-variants.{Message, NoMessage, Broken, NoRoom, NoOutput, TooLong}
+use Rattle.answer.specs.Answer.{numbered}
+use Rattle.answer.specs.declared.Report.the-variants.{Message, NoMessage, Broken, NoRoom, NoOutput, TooLong}
 use Rattle.line.specs.Head.{spaced, allSpaced, headBy, headText}
 use Rattle.line.specs.Pieces.{carried, counted}
 

@@ -6,8 +6,8 @@ use Prim.Native.Nat.{ℕ}
 use mathlib.Core.List.{List, [], _∷_, _++_}
 use Rattle.basics.specs.Ascii.{ascii}
 use Rattle.text.specs.Decimal.{decimal}
-use Rattle.report.specs.Report.{numbered}
-use Rattle.report.specs.declared.Report.{Report}
+use Rattle.answer.specs.Answer.{numbered}
+use Rattle.answer.specs.declared.Report.{Report}
 
 -- a number and a space
 unfoldable pub spaced : ℕ → List ℕ

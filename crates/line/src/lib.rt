@@ -1,5 +1,5 @@
 // The head of the line that the program prints: the answer and its numbers.
-use report::Report;
+use answer::Report;
 use text::put_at;
 use text::put_decimal_at;
 ghost use Rattle.text.specs.Writing.{Written};

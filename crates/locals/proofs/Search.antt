@@ -1,12 +1,14 @@
--- The search over records, one record further.
+-- The search over records, one record further; and the windows of records.
 -- Assumes nothing.
-use Prim.Native.Nat.{ℕ, zero, suc, _-_, _≤_, _<_}
+use Prim.Native.Nat.{ℕ, zero, suc, _+_, _-_, _≤_, _<_}
 use native.Mathlib.Nat.{not-suc-le-zero}
 use native.Mathlib.Numerals.{sub-one}
 use native.Mathlib.Omega.{arith}
-use mathlib.Core.Path.{_≡_, refl}
+use mathlib.Core.Path.{_≡_, refl, _∙_, sym}
 use mathlib.Core.Bool.{Bool, true, false}
 use mathlib.Core.List.{List, _∷_}
+use lib.Dec.{ltb}
+use borrow.Author.Tests.{lt-ltb, le-ltb, ltb-true, ltb-false}
 use Rattle.tables.specs.LocalRecord.{recordAt, recordsIn}
 use Rattle.tables.specs.declared.LocalRecord.the-variants.{Read, Wrong}
 use Rattle.tables.specs.declared.RecordPlace.{RecordPlace}
@@ -43,3 +45,13 @@ module _ (records : List ℕ) (at slot load : ℕ) where
         firstMatch (recordsIn records (left - 1) (r .next)) slot load ≡ firstMatch (recordsIn records left at) slot load
     unfolding firstMatch
     passes e = rw (listed, e)
+
+-- ---- windows
+
+-- an index less the window's start is compared with its length, as the index is with its end
+pub window-same : (start size load : ℕ) → start ≤ load → ltb (load - start) size ≡ ltb load (start + size)
+window-same start size load from = by-ltb (ltb (load - start) size) refl
+  where
+    by-ltb : (t : Bool) → ltb (load - start) size ≡ t → ltb (load - start) size ≡ ltb load (start + size)
+    by-ltb true e = e ∙ sym (lt-ltb load (start + size) (omega (arith, from, ltb-true (load - start) size e)))
+    by-ltb false e = e ∙ sym (le-ltb load (start + size) (omega (arith, from, ltb-false (load - start) size e)))

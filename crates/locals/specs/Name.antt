@@ -2,7 +2,7 @@
 -- length; else `this` for local 0 of a non-static method (flag 8 clear); else `<parameterK>` when a parameter starts at that
 -- slot; else `<localN>`."
 -- Assumes nothing.
-use Prim.Native.Nat.{ℕ, _+_, _-_, _≤_}
+use Prim.Native.Nat.{ℕ, _+_, _-_, _/_, _%_, _≤_}
 use mathlib.Core.Bool.{Bool}
 use mathlib.Core.List.{List, [], _∷_, _++_}
 use lib.Dec.{eqb, leb, ltb}
@@ -18,6 +18,12 @@ use Rattle.descriptor.specs.declared.Found.the-variants.{At, Absent}
 use Rattle.text.specs.Decimal.{decimal}
 use Rattle.locals.specs.declared.NamePlace.{NamePlace}
 use Rattle.locals.specs.declared.NamePlace.the-variants.{Name, Unnamed}
+
+-- ---- methods
+
+-- "a non-static method (flag 8 clear)"
+unfoldable pub isInstance : ℕ → Bool
+isInstance flags = eqb (flags / 8 % 2) 0
 
 -- ---- records
 

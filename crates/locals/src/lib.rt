@@ -5,14 +5,13 @@ use text::put_at;
 use text::put_decimal_at;
 ghost use mathlib.Core.Path.{_≡_};
 ghost use mathlib.Core.List.{_++_};
-ghost use Prim.Native.Nat.{_≤_};
 ghost use lib.ListN.{length};
 ghost use lib.Dec.{eqb};
 ghost use Rattle.basics.specs.Choice.{both};
 ghost use Rattle.tables.specs.LocalRecord.{recordsIn};
 ghost use Rattle.text.specs.Decimal.{decimal};
 ghost use Rattle.text.specs.Writing.{Written};
-ghost use Rattle.locals.specs.Name.{covers, firstMatch, nameInside, signatureParameter, numberedName, unnamed, localName};
+ghost use Rattle.locals.specs.Name.{isInstance, covers, firstMatch, nameInside, signatureParameter, numberedName, unnamed, localName};
 
 // Where a name lies, or that there is none.
 pub enum NamePlace {
@@ -20,14 +19,20 @@ pub enum NamePlace {
     Unnamed,
 }
 
-// Whether a record is of a slot and its window holds an index. The window's end is a whole number.
-fn covers_load(start: usize, size: usize, of: usize, slot: usize, load: usize) -> bool
-    requires { ⌜ (start ≤ 65535) × (size ≤ 65535) ⌝ }
+// Whether a method has a receiver: flag 8 is clear.
+pub fn is_instance(flags: usize) -> bool
+    ensures { λ r. ⌜ r ≡ isInstance flags ⌝ }
+{
+    flags / 8 % 2 == 0
+}
+
+// Whether a record is of a slot and its window holds an index. The window's end is a whole number, so nothing is added.
+pub fn covers_load(start: usize, size: usize, of: usize, slot: usize, load: usize) -> bool
     ensures { λ r. ⌜ r ≡ covers start size of slot load ⌝ }
 {
     if of == slot {
         if start <= load {
-            return load < start + size;
+            return load - start < size;
         }
     }
     false

@@ -14,7 +14,8 @@ use Rattle.descriptor.specs.Types.{Types, over, unread, one, typesAt, typesOf}
 use Rattle.descriptor.specs.declared.FieldType.{FieldType}
 use Rattle.text.specs.Writing.{most, Written}
 use Rattle.text.proofs.Writing.{written-then, written-none}
-use Rattle.names.specs.Names.{typeName, typeNames, commaed, joined, commaBefore, parameterNames}
+use Rattle.names.specs.Names.{typeName, typeNames, commaed, joined, parameterNames}
+use Rattle.names.specs.Commas.{commaBefore}
 
 -- the first parameter stands at index 1
 unfoldable pub namesLeft : List ℕ → ℕ → List ℕ

@@ -75,10 +75,6 @@ unfoldable pub joined : List (List ℕ) → List ℕ
 joined [] = []
 joined (name ∷ names) = name ++ commaed names
 
--- the comma before the parameter at an index of its descriptor: the first stands at 1
-abbrev pub commaBefore : ℕ → List ℕ
-commaBefore index = pick (eqb index 1) [] (ascii ", ")
-
 -- the names of a descriptor's parameters
 unfoldable pub parameterNames : List ℕ → List ℕ
 parameterNames text = joined (typeNames text (typesOf text))

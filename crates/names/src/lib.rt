@@ -12,7 +12,8 @@ ghost use lib.Dec.{eqb};
 ghost use Rattle.basics.specs.Choice.{pick};
 ghost use lib.ListN.{length, take, drop, getD};
 ghost use Rattle.text.specs.Writing.{Written};
-ghost use Rattle.names.specs.Names.{dotOf, dotted, startsWith, className, baseNames, baseName, bracketPairs, elementName, typeName, commaBefore, parameterNames};
+ghost use Rattle.names.specs.Commas.{commaBefore};
+ghost use Rattle.names.specs.Names.{dotOf, dotted, startsWith, className, baseNames, baseName, bracketPairs, elementName, typeName, parameterNames};
 
 fn dot(byte: u8) -> u8
     ensures { λ r. ⌜ r ≡ dotOf byte ⌝ }

@@ -1,9 +1,9 @@
 // Reads one case from standard input and prints one line: the answer, the kind, the two counts, and the message or the number
 // that the answer carries.
+use answer::Report;
 use libc::STDERR_FILENO;
 use libc::STDIN_FILENO;
 use libc::STDOUT_FILENO;
-use report::Report;
 
 // What reading the input answers.
 enum Input {

@@ -7,9 +7,10 @@ use Rattle.bounds.proofs.Counts.{counts-small}
 use Rattle.bounds.specs.Counts.{Small}
 use Rattle.items.specs.Number.{greatest}
 use Rattle.ffi.specs.Numbers.{low, reportNumbers}
-use Rattle.report.specs.Report.{reportOf, numbered}
-use Rattle.report.specs.declared.Report.{Report}
-use Rattle.report.specs.declared.Report.the-variants.{Message, NoMessage, Broken, NoRoom, NoOutput, TooLong}
+use Rattle.answer.specs.Answer.{numbered}
+use Rattle.report.specs.Report.{reportOf}
+use Rattle.answer.specs.declared.Report.{Report}
+use Rattle.answer.specs.declared.Report.the-variants.{Message, NoMessage, Broken, NoRoom, NoOutput, TooLong}
 use Rattle.promises.specs.Counts.{plainly, CCounts}
 
 low-is : (n : ℕ) → n ≤ greatest → low n ≡ n

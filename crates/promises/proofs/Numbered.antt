@@ -8,7 +8,7 @@ use Rattle.bytecode.proofs.Laws as bytecode
 use Rattle.casefile.proofs.Answer as casefile
 use Rattle.jdescriptor.proofs.Numbers as jdescriptor
 use Rattle.leader.proofs.Answer as leader
-use Rattle.report.proofs.Answers as report
+use Rattle.answer.proofs.Answers as report
 use Rattle.promises.specs.Numbered.{SamePromise, PromisesNumbered}
 
 pub same-promise :

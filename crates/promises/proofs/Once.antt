@@ -4,7 +4,7 @@ use mathlib.Core.Path.{ap₂}
 use Rattle.basics.proofs.Outcome.{one-outcome}
 use Rattle.bytecode.proofs.Laws.{fixed-lengths-once}
 use Rattle.index.proofs.Tables.{tabled-once}
-use Rattle.report.proofs.Answers.{delivered-once}
+use Rattle.answer.proofs.Answers.{delivered-once}
 use Rattle.text.proofs.Writing.{written-once}
 use Rattle.promises.specs.Once.{Left, LeftBoth, OneOutcome}
 

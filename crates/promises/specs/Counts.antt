@@ -7,7 +7,8 @@ use mathlib.Core.List.{List}
 use Rattle.basics.specs.Bytes.{AreBytes}
 use Rattle.ffi.specs.Numbers.{nth, reportNumbers}
 use Rattle.ffi.specs.declared.KorsepalReport.{KorsepalReport}
-use Rattle.report.specs.Report.{reportOf, numbered}
+use Rattle.answer.specs.Answer.{numbered}
+use Rattle.report.specs.Report.{reportOf}
 
 -- the numbers of an answer, as they are
 abbrev pub plainly : List ℕ → KorsepalReport

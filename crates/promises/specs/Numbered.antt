@@ -11,7 +11,7 @@ use Rattle.bytecode.specs.Length.{numbered as lengthNumbered}
 use Rattle.casefile.specs.Whole.{numbered as caseNumbered}
 use Rattle.jdescriptor.specs.Answer.{numbered as strictNumbered}
 use Rattle.leader.specs.Scan.{numbered as leaderNumbered}
-use Rattle.report.specs.Report.{numbered as reportNumbered}
+use Rattle.answer.specs.Answer.{numbered as reportNumbered}
 
 -- an answer is the wanted one exactly when its numbers are the wanted one's
 pub record SamePromise {A : Type 0} (numbered : A → List ℕ) : Type 0 where

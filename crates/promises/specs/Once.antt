@@ -7,8 +7,8 @@ use mathlib.Core.Path.{_≡_}
 use mathlib.Core.List.{List}
 use Rattle.bytecode.specs.Length.{FixedLengths}
 use Rattle.index.specs.Index.{Tabled}
-use Rattle.report.specs.Report.{Said, Delivered}
-use Rattle.report.specs.declared.Report.{Report}
+use Rattle.answer.specs.Answer.{Said, Delivered}
+use Rattle.answer.specs.declared.Report.{Report}
 use Rattle.text.specs.Writing.{Written}
 
 -- any two outcomes that meet the contract are equal

@@ -7,8 +7,6 @@ use mathlib.Core.Path.{_≡_, refl, sym, _∙_, ap}
 use mathlib.Core.Bool.{Bool, true, false}
 use mathlib.Core.List.{List, [], _∷_, _++_}
 use lib.ListN.{length, getD, drop, drop-of-length-le}
-use lib.Dec.{ltb}
-use borrow.Author.Tests.{lt-ltb, le-ltb, ltb-true, ltb-false}
 use Rattle.basics.specs.Choice.{pick}
 use Rattle.tables.specs.declared.RecordPlace.{RecordPlace}
 use Rattle.locals.specs.Name.{covers, firstMatch}
@@ -66,16 +64,6 @@ module _ (slot load : ℕ) where
     pub miss-one : covers (r .start) (r .length) (r .slot) slot load ≡ false → firstMatch (viewed r ∷ []) slot load ≡ Unnamed
     unfolding firstMatch
     miss-one e = rw e
-
--- ---- windows
-
--- an index less the window's start is compared with its length, as the index is with its end
-pub window-same : (start size load : ℕ) → start ≤ load → ltb (load - start) size ≡ ltb load (start + size)
-window-same start size load from = by-ltb (ltb (load - start) size) refl
-  where
-    by-ltb : (t : Bool) → ltb (load - start) size ≡ t → ltb (load - start) size ≡ ltb load (start + size)
-    by-ltb true e = e ∙ sym (lt-ltb load (start + size) (omega (arith, from, ltb-true (load - start) size e)))
-    by-ltb false e = e ∙ sym (le-ltb load (start + size) (omega (arith, from, ltb-false (load - start) size e)))
 
 -- ---- a run, from a place on
 

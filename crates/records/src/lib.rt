@@ -1,12 +1,13 @@
 // The same name search over a lent run of local records (document 01, "Expected form in each place"), and the filling of such a
 // run from a case's bytes.
 use locals::NamePlace;
+use locals::covers_load;
 ghost use Prim.Native.Nat.{_-_};
 ghost use mathlib.Core.Path.{_≡_};
 ghost use mathlib.Core.List.{_∷_, []};
 ghost use lib.ListN.{length};
 ghost use Rattle.tables.specs.LocalRecord.{recordsIn};
-ghost use Rattle.locals.specs.Name.{covers, firstMatch, nameInside};
+ghost use Rattle.locals.specs.Name.{firstMatch, nameInside};
 ghost use Rattle.records.specs.Run.{viewed, viewedAll, orElse, readNext, runOf};
 
 // A local record: the window of indexes that it holds for, its slot, and where its name begins and ends.
@@ -41,18 +42,6 @@ const NO_MORE: Reading = Reading {
     left: 0,
 };
 
-// Whether a record is of a slot and its window holds an index. Nothing is known of a lent record's numbers, so none are added.
-fn covers_load(local: LocalRecord, slot: usize, load: usize) -> bool
-    ensures { λ r. ⌜ r ≡ covers (local .start) (local .length) (local .slot) slot load ⌝ }
-{
-    if local.slot == slot {
-        if local.start <= load {
-            return load - local.start < local.length;
-        }
-    }
-    false
-}
-
 // A name that is found, else another.
 fn first_of(found: NamePlace, other: NamePlace) -> NamePlace
     ensures { λ r. ⌜ r ≡ orElse found other ⌝ }
@@ -67,7 +56,7 @@ fn first_of(found: NamePlace, other: NamePlace) -> NamePlace
 fn name_or(local: LocalRecord, slot: usize, load: usize, found: NamePlace) -> NamePlace
     ensures { λ r. ⌜ r ≡ orElse found (firstMatch (viewed local ∷ []) slot load) ⌝ }
 {
-    if covers_load(local, slot, load) {
+    if covers_load(local.start, local.length, local.slot, slot, load) {
         let name = NamePlace::Name {
             from: local.from,
             to: local.to,

@@ -1,11 +1,11 @@
 // Replays a stored sample of the Rust's own answers (compare/README.md says how it was made) and compares byte for byte. A record
 // of the sample is a kind, an input and the expected text, each text behind its length in two bytes, high first.
+use answer::Report;
 use check::same;
 use descriptor::Params;
 use descriptor::Slots;
 use jdescriptor::Answer;
 use libc::STDOUT_FILENO;
-use report::Report;
 use text::put_at;
 use text::put_decimal_at;
 ghost use Prim.Native.Nat.{_≤_};

@@ -1,4 +1,1 @@
-pub mod Answers
 pub mod Reporting
-pub mod Tracing
-pub mod Writing

@@ -11,11 +11,13 @@ use Rattle.fault.specs.Decoding.{decoded}
 use Rattle.fault.specs.declared.Action.{Action}
 use Rattle.fault.specs.declared.Fault.the-variants.{Failed, Nothing}
 use Rattle.message.specs.Message.{messageText}
-use Rattle.report.specs.Report.{isInstance, kindOf, messageOf, said, saidOf, Delivered}
-use Rattle.report.specs.Trace.{traced}
-use Rattle.report.specs.declared.Report.the-variants as report
-use Rattle.report.specs.declared.Report.{Report}
-use Rattle.report.specs.declared.Trace.the-variants.{NoRoom, Traced}
+use Rattle.answer.specs.Answer.{kindOf, said, Delivered}
+use Rattle.locals.specs.Name.{isInstance}
+use Rattle.report.specs.Report.{messageOf, saidOf}
+use Rattle.trace.specs.Trace.{traced}
+use Rattle.answer.specs.declared.Report.the-variants as report
+use Rattle.answer.specs.declared.Report.{Report}
+use Rattle.trace.specs.declared.Trace.the-variants.{NoRoom, Traced}
 
 module _ (p : Parts) (room : ℕ) (out : List ℕ) where
   abbrev pub Reports : Report → List ℕ → Type 0

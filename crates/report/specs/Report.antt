@@ -1,38 +1,24 @@
 -- The report of a case (document 01, "Numbers returned"): its answer, the output and the stack at exit.
 -- Assumes nothing.
-use Prim.Native.Nat.{ℕ, _/_, _%_, min}
-use mathlib.Core.Bool.{Bool}
-use mathlib.Core.List.{List, [], _∷_}
-use mathlib.Core.Path.{_≡_}
-use lib.Dec.{eqb, leb}
-use lib.ListN.{length}
-use Rattle.basics.specs.Choice.{pick}
+use Prim.Native.Nat.{ℕ}
+use mathlib.Core.List.{List}
 use Rattle.casefile.specs.Parts.{Parts, partsOf}
 use Rattle.casefile.specs.Whole.{caseOf}
 use Rattle.casefile.specs.declared.Case.{Case}
 use Rattle.casefile.specs.declared.Case.the-variants as cases
-use Rattle.text.specs.Writing.{most, over}
 use Rattle.block.specs.declared.Slot.{Slot}
-use Rattle.block.specs.declared.Slot.the-variants.{Other, Loaded}
+use Rattle.answer.specs.Answer.{kindOf, Said, silent, roomless, said, answerBy, outputBy}
 use Rattle.fault.specs.Decoding.{decoded}
 use Rattle.fault.specs.declared.Action.{Action}
 use Rattle.fault.specs.declared.Fault.{Fault}
 use Rattle.fault.specs.declared.Fault.the-variants.{Failed, Nothing}
+use Rattle.locals.specs.Name.{isInstance}
 use Rattle.message.specs.Message.{messageText}
-use Rattle.report.specs.Trace.{traced}
-use Rattle.report.specs.declared.Report.{Report}
-use Rattle.report.specs.declared.Report.the-variants as report
-use Rattle.report.specs.declared.Trace.{Trace}
-use Rattle.report.specs.declared.Trace.the-variants as trace
-
--- "a non-static method (flag 8 clear)"
-unfoldable pub isInstance : ℕ → Bool
-isInstance flags = eqb (flags / 8 % 2) 0
-
--- "kind (1 action, 2 action and cause)"
-abbrev pub kindOf : Slot → ℕ
-kindOf Other = 1
-kindOf (Loaded load local) = 2
+use Rattle.trace.specs.Trace.{traced}
+use Rattle.answer.specs.declared.Report.{Report}
+use Rattle.answer.specs.declared.Report.the-variants as report
+use Rattle.trace.specs.declared.Trace.{Trace}
+use Rattle.trace.specs.declared.Trace.the-variants as trace
 
 unfoldable pub messageOf : Parts → Action → Slot → List ℕ
 messageOf p action cause =
@@ -52,13 +38,6 @@ partsBy flags fault code signature members memberCount records recordCount =
       records = records;
     }
 
--- what a report has to say, before the output's room is judged: nothing, that the stack lacks room at an index, or a message
--- with its kind, scan count and block count
-pub data Said : Type 0 where
-  silent : Said
-  roomless : ℕ → Said
-  said : List ℕ → ℕ → ℕ → ℕ → Said
-
 abbrev pub saidBy : Parts → Action → Trace → Said
 saidBy p action (trace.NoRoom index) = roomless index
 saidBy p action (trace.Traced scan block cause) = said (messageOf p action cause) (kindOf cause) scan block
@@ -71,27 +50,6 @@ saidAt p room (Failed action depth) =
 -- of the parts of a case, with so many cells lent
 unfoldable pub saidOf : Parts → ℕ → Said
 saidOf p room = saidAt p room (decoded (p .code) (p .members) (p .memberCount) (p .fault))
-
--- "4: the message exceeds the lent output", with the length needed. That is a number of 64 bits; no case's message is longer.
-abbrev pub needed : List ℕ → ℕ
-needed message = min (length message) most
-
-abbrev pub answerBy : Said → ℕ → Report
-answerBy silent room = report.NoMessage
-answerBy (roomless index) room = report.NoRoom index
-answerBy (said message kind scan block) room =
-    pick (leb (length message) room) (report.Message (length message) kind scan block) (report.NoOutput (needed message))
-
--- "On 0 the output starts with the message and the rest is unchanged; on others all of it is unchanged."
-abbrev pub outputBy : Said → List ℕ → List ℕ
-outputBy silent out = out
-outputBy (roomless index) out = out
-outputBy (said message kind scan block) out = pick (leb (length message) (length out)) (over message out) out
-
--- what is said goes to the output: the answer, and what the output holds afterwards
-pub record Delivered (what : Said) (out : List ℕ) (answer : Report) (left : List ℕ) : Type 0 where
-  pub answers : answer ≡ answerBy what (length out)
-  pub leaves : left ≡ outputBy what out
 
 -- ---- a whole case: "Tested in the order 5, 2, 1, 3, 4."
 
@@ -111,12 +69,3 @@ reportOf bytes room outRoom = answerOf bytes room outRoom (caseOf bytes)
 
 unfoldable pub reportedIn : List ℕ → ℕ → List ℕ → List ℕ
 reportedIn bytes room out = outputOf bytes room out (caseOf bytes)
-
--- document 01's number of an answer, and what it carries
-unfoldable pub numbered : Report → List ℕ
-numbered (report.Message size kind scan block) = 0 ∷ size ∷ kind ∷ scan ∷ block ∷ []
-numbered report.NoMessage = 1 ∷ []
-numbered (report.Broken offset) = 2 ∷ offset ∷ []
-numbered (report.NoRoom index) = 3 ∷ index ∷ []
-numbered (report.NoOutput size) = 4 ∷ size ∷ []
-numbered report.TooLong = 5 ∷ []

@@ -33,9 +33,13 @@ use Rattle.block.specs.Room.{completedFrom, completed, blockWalk}
 use Rattle.block.specs.Walk.{step, walkFrom, walk}
 use Rattle.fault.specs.Decoding.{actionOf, constructs, decoded}
 use Rattle.locals.specs.Name.{firstMatch, signatureParameter, numberedName, localName}
-use Rattle.message.specs.Message.{methodText, invokeText, actionText, causeText, messageText}
-use Rattle.report.specs.Report.{isInstance, messageOf, saidOf, reportOf, reportedIn, numbered as reported}
-use Rattle.report.specs.Trace.{slotFrom, traced}
+use Rattle.action.specs.Action.{actionText}
+use Rattle.message.specs.Message.{causeText, messageText}
+use Rattle.words.specs.Words.{methodText, invokeText}
+use Rattle.answer.specs.Answer.{numbered as reported}
+use Rattle.locals.specs.Name.{isInstance}
+use Rattle.report.specs.Report.{messageOf, saidOf, reportOf, reportedIn}
+use Rattle.trace.specs.Trace.{slotFrom, traced}
 use Rattle.rows.specs.Rows.{AllHold, none, _&_, rows}
 
 pub rows-hold : AllHold rows

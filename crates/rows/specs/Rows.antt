@@ -19,7 +19,8 @@ use Rattle.leader.specs.declared.Scan.the-variants.{Leader}
 use Rattle.names.specs.Names.{parameterNames}
 use Rattle.jdescriptor.specs.Answer.{answer, numbered}
 use Rattle.jdescriptor.specs.Reading.{typeReading, methodReading}
-use Rattle.report.specs.Report.{reportOf, reportedIn, numbered as reported}
+use Rattle.answer.specs.Answer.{numbered as reported}
+use Rattle.report.specs.Report.{reportOf, reportedIn}
 
 -- the bytes of a static method's case with a fault and a code, both short; no signature, no members, no records
 abbrev pub static : ℕ → List ℕ → List ℕ

@@ -3,7 +3,7 @@
 use mathlib.Core.Path.{_∙_, sym, refl}
 use borrow.Author.Needs.{needs}
 use Rattle.casefile.specs.Parts.{partsOf}
-use Rattle.report.specs.Report.{numbered}
+use Rattle.answer.specs.Answer.{numbered}
 use Rattle.ffi.proofs.korsepal_local_name.Statement.{statement}
 use Rattle.ffi.proofs.korsepal_local_name.Tie as tie
 

@@ -6,9 +6,9 @@ use mathlib.Core.Path.{refl, sym, ap, _∙_}
 use lib.ListN.{length}
 use denote.Ref.{now}
 use borrow.Author.Needs.{needs}
-use Rattle.report.proofs.Writing as writing
+use Rattle.answer.proofs.Writing as writing
 use Rattle.ffi.specs.Numbers.{listNumbers}
-use Rattle.report.specs.Report.{numbered}
+use Rattle.answer.specs.Answer.{numbered}
 use Rattle.ffi.proofs.korsepal_parameters.Statement.{statement}
 use Rattle.ffi.proofs.korsepal_parameters.Tie as tie
 

@@ -1,7 +1,7 @@
 -- `ffi::report_numbers` meets its contract. One arm an answer.
 -- Assumes nothing.
 use borrow.Author.Needs.{needs}
-use Rattle.report.specs.Report.{numbered}
+use Rattle.answer.specs.Answer.{numbered}
 use Rattle.ffi.proofs.report_numbers.Statement.{statement}
 use Rattle.ffi.proofs.report_numbers.Tie as tie
 

@@ -54,7 +54,7 @@ within c =
     (c .before .local .given .1) (c .before .before .before .read-record .ensures .1)
 
 covers-load-requires : tie.Need-covers-load-requires Inv-loop μ-loop
-covers-load-requires c κs = let is = within c in (is .0, is .1)
+covers-load-requires c κs = tt
 
 returns-2 : tie.Need-returns-2 Inv-loop μ-loop
 returns-2 c =

@@ -1,0 +1,22 @@
+-- The action that failed, in words (document 01, "Action and cause").
+-- Assumes nothing.
+use Prim.Native.Nat.{ℕ}
+use mathlib.Core.List.{List}
+use Rattle.basics.specs.Ascii.{ascii}
+use Rattle.items.specs.Text.{nameOf}
+use Rattle.tables.specs.Member.{memberFound}
+use Rattle.fault.specs.declared.Action.{Action}
+use Rattle.fault.specs.declared.Action.the-variants.{ReadField, AssignField, Invoke, LoadArray, StoreArray, ReadLength, ThrowException, EnterBlock, ExitBlock}
+use Rattle.words.specs.Words.{quoted, invokeText, arrayText}
+
+-- the action, whose member is looked up among so many
+unfoldable pub actionText : List ℕ → ℕ → Action → List ℕ
+actionText members count (ReadField index) = quoted (ascii "Cannot read field ") (nameOf (memberFound members index 0 count 0 0))
+actionText members count (AssignField index) = quoted (ascii "Cannot assign field ") (nameOf (memberFound members index 0 count 0 0))
+actionText members count (Invoke index) = invokeText (memberFound members index 1 count 0 0)
+actionText members count (LoadArray element) = arrayText (ascii "Cannot load from ") element
+actionText members count (StoreArray element) = arrayText (ascii "Cannot store to ") element
+actionText members count ReadLength = ascii "Cannot read the array length"
+actionText members count ThrowException = ascii "Cannot throw exception"
+actionText members count EnterBlock = ascii "Cannot enter synchronized block"
+actionText members count ExitBlock = ascii "Cannot exit synchronized block"

@@ -1,8 +1,0 @@
--- An answer is told by its numbers (document 01, "Numbers returned").
--- Assumes nothing.
-use mathlib.Core.Path.{_≡_}
-use Rattle.report.specs.Report.{numbered}
-use Rattle.report.specs.declared.Report.{Report}
-
-abbrev pub NumberedInjective : Type 0
-NumberedInjective = (one another : Report) → numbered one ≡ numbered another → one ≡ another

@@ -1,0 +1,29 @@
+-- The phrases that a message is made of (document 01, "Action and cause").
+-- Assumes nothing.
+use Prim.Native.Nat.{ℕ}
+use mathlib.Core.List.{List, [], _∷_, _++_}
+use lib.ListN.{getD}
+use Rattle.basics.specs.Ascii.{ascii}
+use Rattle.items.specs.Text.{classOf, nameOf, descriptorOf}
+use Rattle.names.specs.Names.{className, parameterNames}
+
+-- "T is int, long, float, double, object, byte, char, short in opcode order."
+unfoldable pub elementText : ℕ → List ℕ
+elementText element =
+    getD (ascii "int" ∷ ascii "long" ∷ ascii "float" ∷ ascii "double" ∷ ascii "object" ∷ ascii "byte" ∷ ascii "char" ∷ []) element
+    (ascii "short")
+
+-- words and a name in quotes
+unfoldable pub quoted : List ℕ → List ℕ → List ℕ
+quoted words name = words ++ ascii "\"" ++ name ++ ascii "\""
+
+-- "C.M", of the part that holds a method's texts
+unfoldable pub methodText : List ℕ → List ℕ
+methodText texts = className (classOf texts) ++ ascii "." ++ nameOf texts
+
+-- "Cannot invoke "C.M(P, P)""
+unfoldable pub invokeText : List ℕ → List ℕ
+invokeText texts = ascii "Cannot invoke \"" ++ methodText texts ++ ascii "(" ++ parameterNames (descriptorOf texts) ++ ascii ")\""
+
+unfoldable pub arrayText : List ℕ → ℕ → List ℕ
+arrayText words element = words ++ elementText element ++ ascii " array"
