@@ -213,7 +213,7 @@ fn get_effect(
     if code.len() - pc < 3 {
         return Effect::Fails;
     }
-    let texts = index::find_indexed(members, count, table, bytecode::read_u16(code, pc + 1), 0);
+    let texts = index::find_indexed(members, count, table, reads::read_u16(code, pc + 1), 0);
     if texts.len() == 0 {
         return Effect::Fails;
     }
@@ -241,7 +241,7 @@ fn call_effect(
     if code.len() - pc < 3 {
         return Effect::Fails;
     }
-    let texts = index::find_indexed(members, count, table, bytecode::read_u16(code, pc + 1), 1);
+    let texts = index::find_indexed(members, count, table, reads::read_u16(code, pc + 1), 1);
     if texts.len() == 0 {
         return Effect::Fails;
     }

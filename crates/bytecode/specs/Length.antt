@@ -9,7 +9,7 @@ use lib.ListN.{length}
 use Rattle.basics.specs.Bytes.{byteAt}
 use Rattle.basics.specs.Choice.{pick}
 use Rattle.jvms.specs.Format.{Format, fixed, tableswitch, lookupswitch, wide, reserved, widths, formatOf}
-use Rattle.bytecode.specs.Signed.{i32At}
+use Rattle.reads.specs.Signed.{i32At}
 use Rattle.bytecode.specs.declared.Measure.{Measure}
 use Rattle.bytecode.specs.declared.Measure.the-variants.{Length, NoLength}
 

@@ -1,3 +1,2 @@
 pub mod Length
 pub mod Rule
-pub mod Signed

@@ -1,5 +1,18 @@
--- Document 01's rows and depths against the operands and results of JVMS, as statements. proofs/ of this crate has a proof
--- of each. They are said of any table of rows, at every opcode and for every member that an instruction cites.
+-- Document 01's rows and depths against the operands and results of JVMS.
+--
+-- The claim (`RowsAgree`, below): at every opcode that document 01 models, for every member that an instruction may cite and for
+-- either form of an opcode that has two, the slots that its row takes and gives are those of JVMS's operands and results, and each
+-- slot that it carries along is the operand that JVMS puts there. `checkcast` alone is apart: its row keeps the list. And
+-- (`DepthsAgree`) the depth of a reference is the number of slots above the operand that JVMS names objectref or arrayref.
+--
+-- A row worked out: swap, opcode 95. JVMS 6.5 draws "..., value2, value1 → ..., value1, value2", which is the entry
+--     does (category1 value2 ∷ category1 value1 ∷ [] ⇒ category1 value1 ∷ category1 value2 ∷ [])
+-- and document 01's row is
+--     carries 2 (1 ∷ 2 ∷ [])
+-- Both take two slots and give two. Where a and b are taken, b on top, JVMS's results are b and a by their names; the row's places,
+-- counted from the top, are 1 and 2: b and a.
+--
+-- Said of any table of rows (`Agreeing`); proofs/ of this crate has a proof of each statement.
 -- Assumes nothing.
 use Prim.Native.Nat.{ℕ, _+_, _-_, _<_}
 use mathlib.Core.Path.{_≡_}

@@ -13,7 +13,8 @@ use Rattle.jvms.specs.Format.{formatOf}
 use Rattle.bytecode.specs.Length.{bytesOf, fixedLength, within, lengthOf}
 use Rattle.leader.specs.Greatest.{upTo, greatest}
 use Rattle.leader.specs.Scan.{scanFrom, instructions, scanCount, leadersOf, answered, blockLeader}
-use Rattle.leader.specs.Targets.{kindOf, leadersAt}
+use Rattle.branch.specs.Branch.{branchOf}
+use Rattle.leader.specs.Targets.{leadersAt}
 use Rattle.descriptor.specs.Search.{firstIn, firstFrom}
 use Rattle.text.specs.Decimal.{digits, decimal}
 use Rattle.text.specs.Writing.{over}
@@ -41,7 +42,7 @@ use Rattle.evidence.specs.Constant.{reading, throwing, readingNull, blan
 
 pub small-cases : SmallCases
 unfolding reportOf reportedIn caseOf placesIn tablesAt textAt numberAt numberFrom runBy membersThen recordsThen partsOf
-    saidOf decoded depthOf ruleOf actionOf traced blockLeader instructions scanFrom scanCount leadersOf leadersAt kindOf
+    saidOf decoded depthOf ruleOf actionOf traced blockLeader instructions scanFrom scanCount leadersOf leadersAt branchOf
     answered greatest upTo lengthOf within bytesOf formatOf blockWalk completed completedFrom walk walkFrom step
     rowOf fixedLength slotFrom messageOf messageText actionText causeText localName recordsIn firstMatch
     signatureParameter firstFrom firstIn numberedName decimal digits isInstance over

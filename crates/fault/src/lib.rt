@@ -40,7 +40,7 @@ fn read_fault(code: &[u8], members: &[u8], count: usize, fault: usize) -> Fault
     if code.len() - fault < 3 {
         return Fault::Nothing;
     }
-    let index = bytecode::read_u16(code, fault + 1);
+    let index = reads::read_u16(code, fault + 1);
     if tables::find_member(members, count, index, 0).len() == 0 {
         return Fault::Nothing;
     }
@@ -58,7 +58,7 @@ fn assign_fault(code: &[u8], members: &[u8], count: usize, fault: usize) -> Faul
     if code.len() - fault < 3 {
         return Fault::Nothing;
     }
-    let index = bytecode::read_u16(code, fault + 1);
+    let index = reads::read_u16(code, fault + 1);
     let texts = tables::find_member(members, count, index, 0);
     if texts.len() == 0 {
         return Fault::Nothing;
@@ -77,7 +77,7 @@ fn invoke_fault(code: &[u8], members: &[u8], count: usize, fault: usize) -> Faul
     if code.len() - fault < 3 {
         return Fault::Nothing;
     }
-    let index = bytecode::read_u16(code, fault + 1);
+    let index = reads::read_u16(code, fault + 1);
     let texts = tables::find_member(members, count, index, 1);
     if texts.len() == 0 {
         return Fault::Nothing;

@@ -7,7 +7,7 @@ use native.Mathlib.Omega.{arith}
 use mathlib.Core.Path.{_≡_, refl}
 use mathlib.Core.List.{List, [], _∷_, _++_}
 use Rattle.bytecode.specs.Length.{operandsAt}
-use Rattle.bytecode.specs.Signed.{i32At}
+use Rattle.reads.specs.Signed.{i32At}
 use Rattle.leader.specs.Greatest.{upTo, greatest}
 use Rattle.leader.specs.Targets.{target, entryTargets, switchTargets}
 

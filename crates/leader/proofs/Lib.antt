@@ -1,4 +1,4 @@
 pub mod Answer
 pub mod Greatest
-pub mod OfKind
+pub mod OfBranch
 pub mod Scanning

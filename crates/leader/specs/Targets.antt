@@ -6,20 +6,10 @@ use lib.Dec.{eqb, ltb}
 use Rattle.basics.specs.Bytes.{byteAt}
 use Rattle.basics.specs.Choice.{pick, oneOf, between}
 use Rattle.bytecode.specs.Length.{operandsAt, tableEntries, lookupPairs}
-use Rattle.bytecode.specs.Signed.{i16At, i32At}
-use Rattle.leader.specs.declared.Kind.{Kind}
-use Rattle.leader.specs.declared.Kind.the-variants.{Near, Far, Table, Lookup, Ends, Plain}
-
--- "each target of 153 to 168, 198, 199, 200, 201 and of each switch entry and default; the index after each of those, and
--- after 169, 172 to 177 and 191 .. `wide ret` ends no block here"
-unfoldable pub kindOf : ℕ → Kind
-kindOf op =
-    pick (between 153 168 op) Near
-    (pick (between 198 199 op) Near
-    (pick (between 200 201 op) Far
-    (pick (eqb op 170) Table
-    (pick (eqb op 171) Lookup
-    (pick (oneOf (169 ∷ 172 ∷ 173 ∷ 174 ∷ 175 ∷ 176 ∷ 177 ∷ 191 ∷ []) op) Ends Plain)))))
+use Rattle.reads.specs.Signed.{i16At, i32At}
+use Rattle.branch.specs.Branch.{branchOf}
+use Rattle.branch.specs.declared.Branch.{Branch}
+use Rattle.branch.specs.declared.Branch.the-variants.{Near, Far, Table, Lookup, Ends, Plain}
 
 -- a target that is given plus half: "A target below 0 is no leader."
 unfoldable pub target : ℕ → ℕ → List ℕ
@@ -36,7 +26,7 @@ switchTargets code pc step count =
     target (2 ^ 31) (pc + i32At code (operandsAt pc)) ++ entryTargets code pc step count (operandsAt pc + 12)
 
 -- the entries of a tableswitch have 4 bytes each, the pairs of a lookupswitch 8, the offset behind the match
-abbrev pub targetsBy : Kind → List ℕ → ℕ → List ℕ
+abbrev pub targetsBy : Branch → List ℕ → ℕ → List ℕ
 targetsBy Near code pc = target (2 ^ 15) (pc + i16At code (pc + 1))
 targetsBy Far code pc = target (2 ^ 31) (pc + i32At code (pc + 1))
 targetsBy Table code pc = switchTargets code pc 4 (tableEntries code pc)
@@ -44,7 +34,7 @@ targetsBy Lookup code pc = switchTargets code pc 8 (lookupPairs code pc)
 targetsBy Ends code pc = []
 targetsBy Plain code pc = []
 
-abbrev pub afterBy : Kind → ℕ → List ℕ
+abbrev pub afterBy : Branch → ℕ → List ℕ
 afterBy Near next = next ∷ []
 afterBy Far next = next ∷ []
 afterBy Table next = next ∷ []
@@ -54,8 +44,8 @@ afterBy Plain next = []
 
 -- the targets of the instruction at pc
 unfoldable pub targetsAt : List ℕ → ℕ → List ℕ
-targetsAt code pc = targetsBy (kindOf (byteAt code pc)) code pc
+targetsAt code pc = targetsBy (branchOf (byteAt code pc)) code pc
 
 -- the targets and the index after, of the instruction at pc that ends at next
 unfoldable pub leadersAt : List ℕ → ℕ → ℕ → List ℕ
-leadersAt code pc next = targetsBy (kindOf (byteAt code pc)) code pc ++ afterBy (kindOf (byteAt code pc)) next
+leadersAt code pc next = targetsBy (branchOf (byteAt code pc)) code pc ++ afterBy (branchOf (byteAt code pc)) next

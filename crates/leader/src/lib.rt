@@ -1,27 +1,15 @@
 // Where the block of a fault begins (document 01, "Leaders"): one pass over the code, and a running maximum.
+use branch::Branch;
+use branch::branch_of;
 use bytecode::Measure;
-use opcode::Opcode;
 ghost use mathlib.Core.Path.{_≡_};
 ghost use mathlib.Core.List.{[]};
 ghost use Prim.Native.Nat.{_+_, _-_, _*_, _^_, max, _≤_, _<_};
 ghost use lib.ListN.{length};
 ghost use Rattle.bytecode.specs.Length.{operandsAt, bytesOf, lengthOf};
 ghost use Rattle.leader.specs.Greatest.{upTo, greatest};
-ghost use Rattle.leader.specs.Targets.{kindOf, target, entryTargets, switchTargets, leadersAt};
+ghost use Rattle.leader.specs.Targets.{target, entryTargets, switchTargets, leadersAt};
 ghost use Rattle.leader.specs.Scan.{blockLeader};
-
-// How an instruction bears on blocks.
-pub enum Kind {
-    // A branch with an offset of 16 bits.
-    Near,
-    // A branch with an offset of 32 bits.
-    Far,
-    Table,
-    Lookup,
-    // A return, a throw, a ret: nothing but the next index.
-    Ends,
-    Plain,
-}
 
 // What scanning a code answers.
 pub enum Scan {
@@ -29,23 +17,6 @@ pub enum Scan {
     Leader { at: usize, count: usize },
     // The first instruction that has no length, and how many stand before it.
     Unmeasured { at: usize, count: usize },
-}
-
-// The kind of an opcode. `wide` is plain, also before ret.
-fn kind_of(op: u8) -> Kind
-    ensures { λ r. ⌜ r ≡ kindOf op ⌝ }
-{
-    match op {
-        Opcode::IFEQ..=Opcode::JSR => Kind::Near,
-        Opcode::IFNULL..=Opcode::IFNONNULL => Kind::Near,
-        Opcode::GOTO_W..=Opcode::JSR_W => Kind::Far,
-        Opcode::TABLESWITCH => Kind::Table,
-        Opcode::LOOKUPSWITCH => Kind::Lookup,
-        Opcode::IRETURN..=Opcode::RETURN => Kind::Ends,
-        Opcode::RET => Kind::Ends,
-        Opcode::ATHROW => Kind::Ends,
-        _ => Kind::Plain,
-    }
 }
 
 // The greater of best and x, where x is at or below the fault.
@@ -87,7 +58,7 @@ fn entry_targets(
     let mut at = from;
     let mut top = best;
     while 0 < left {
-        top = aim(0x8000_0000, pc + bytecode::read_i32(code, at), fault, top);
+        top = aim(0x8000_0000, pc + reads::read_i32(code, at), fault, top);
         at += step;
         left -= 1;
     }
@@ -107,7 +78,7 @@ fn switch_targets(
     ensures { λ r. ⌜ r ≡ max best (greatest fault (switchTargets (now (code .entry)) pc step count)) ⌝ }
 {
     let at = pc + 1 + bytecode::pad(pc + 1);
-    let top = aim(0x8000_0000, pc + bytecode::read_i32(code, at), fault, best);
+    let top = aim(0x8000_0000, pc + reads::read_i32(code, at), fault, best);
     entry_targets(code, pc, at + 12, step, count, fault, top)
 }
 
@@ -116,28 +87,28 @@ fn leaders_at(code: &[u8], pc: usize, next: usize, fault: usize, best: usize) ->
     requires { ⌜ (pc < length (now code)) × (next ≡ pc + bytesOf (now code) pc) × (next ≤ length (now code)) ⌝ }
     ensures { λ r. ⌜ r ≡ max best (greatest fault (leadersAt (now (code .entry)) pc next)) ⌝ }
 {
-    let kind = kind_of(code[pc]);
+    let kind = branch_of(code[pc]);
     match kind {
-        Kind::Near => {
-            let lifted = pc + bytecode::read_i16(code, pc + 1);
+        Branch::Near => {
+            let lifted = pc + reads::read_i16(code, pc + 1);
             raise(fault, aim(0x8000, lifted, fault, best), next)
         }
-        Kind::Far => {
-            let lifted = pc + bytecode::read_i32(code, pc + 1);
+        Branch::Far => {
+            let lifted = pc + reads::read_i32(code, pc + 1);
             raise(fault, aim(0x8000_0000, lifted, fault, best), next)
         }
         // The opcode, default, low and high are 13 bytes; the division drops the padding.
-        Kind::Table => {
+        Branch::Table => {
             let count = (next - pc - 13) / 4;
             raise(fault, switch_targets(code, pc, 4, count, fault, best), next)
         }
         // The opcode, default and the count of pairs are 9.
-        Kind::Lookup => {
+        Branch::Lookup => {
             let count = (next - pc - 9) / 8;
             raise(fault, switch_targets(code, pc, 8, count, fault, best), next)
         }
-        Kind::Ends => raise(fault, best, next),
-        Kind::Plain => best,
+        Branch::Ends => raise(fault, best, next),
+        Branch::Plain => best,
     }
 }
 

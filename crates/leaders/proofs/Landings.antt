@@ -18,12 +18,13 @@ use Rattle.jvms.specs.Format.{Operand, width, Format, fixed, tableswitch, looku
 use Rattle.jvms.specs.Extent.{natural, defaultAt, signed32At, span}
 use Rattle.jvms.specs.Branch.{isBranch, offsetAt, offsetsIn, offsetsFrom, offsetsBy, landing, landings, landingsAt, branchAmong, branchesBy, endsBlock}
 use Rattle.bytecode.specs.Length.{operandsAt, tableEntries, lookupPairs}
-use Rattle.bytecode.specs.Signed.{i16At, i32At}
+use Rattle.reads.specs.Signed.{i16At, i32At}
 use Rattle.lengths.proofs.Agree.{padded, entries-agree, pairs-agree}
 use Rattle.lengths.proofs.Signed.{signed-reading, unlifted}
-use Rattle.leader.specs.Targets.{kindOf, target, entryTargets, switchTargets, targetsBy, afterBy, targetsAt, leadersAt}
-use Rattle.leader.specs.declared.Kind.{Kind}
-use Rattle.leader.specs.declared.Kind.the-variants.{Near, Far, Table, Lookup, Ends, Plain}
+use Rattle.branch.specs.Branch.{branchOf}
+use Rattle.leader.specs.Targets.{target, entryTargets, switchTargets, targetsBy, afterBy, targetsAt, leadersAt}
+use Rattle.branch.specs.declared.Branch.{Branch}
+use Rattle.branch.specs.declared.Branch.the-variants.{Near, Far, Table, Lookup, Ends, Plain}
 use Rattle.leaders.specs.Leader.{TargetsAgree}
 
 -- ---- one offset
@@ -105,7 +106,7 @@ isLookup lookupswitch = true
 isLookup wide = false
 isLookup reserved = false
 
-abbrev fits : Kind → Format → Bool
+abbrev fits : Branch → Format → Bool
 fits Near f = oneBranch 2 f
 fits Far f = oneBranch 4 f
 fits Table f = isTable f
@@ -114,9 +115,9 @@ fits Ends f = alike (branchesBy f) false
 fits Plain f = alike (branchesBy f) false
 
 -- one test over all opcodes
-kinds-fit : (op : ℕ) → op < 256 → T (fits (kindOf op) (formatOf op))
-unfolding kindOf formatOf
-kinds-fit op below = every-at (λ k. fits (kindOf k) (formatOf k)) 256 tt op below
+kinds-fit : (op : ℕ) → op < 256 → T (fits (branchOf op) (formatOf op))
+unfolding branchOf formatOf
+kinds-fit op below = every-at (λ k. fits (branchOf k) (formatOf k)) 256 tt op below
 
 alone-is : (bytes : ℕ) (os : List Operand) (code : List ℕ) (at : ℕ) → T (alone bytes os) → offsetsIn os code at ≡ offsetAt bytes code at ∷ []
 alone-is bytes [] code at t = absurd t
@@ -166,7 +167,7 @@ module _ (code : List ℕ) (are : AreBytes code) (pc : ℕ) where
   lookup-by wide t = absurd t
   lookup-by reserved t = absurd t
 
-  by-kind : (kind : Kind) (f : Format) → T (fits kind f) → targetsBy kind code pc ≡ landings pc (offsetsBy f code pc)
+  by-kind : (kind : Branch) (f : Format) → T (fits kind f) → targetsBy kind code pc ≡ landings pc (offsetsBy f code pc)
   by-kind Near f t = rw (one-offset 2 f code pc t, leads16 code are pc (pc + 1)) (sym (append-nil (target (2 ^ 15) (pc + i16At code (pc + 1)))))
   by-kind Far f t = rw (one-offset 4 f code pc t, leads32 code are pc (pc + 1)) (sym (append-nil (target (2 ^ 31) (pc + i32At code (pc + 1)))))
   by-kind Table f t = table-by f t
@@ -178,11 +179,11 @@ module _ (code : List ℕ) (are : AreBytes code) (pc : ℕ) where
 pub targets-agree : TargetsAgree
 unfolding targetsAt landingsAt
 targets-agree code are pc =
-    by-kind code are pc (kindOf (byteAt code pc)) (formatOf (byteAt code pc)) (kinds-fit (byteAt code pc) (are pc))
+    by-kind code are pc (branchOf (byteAt code pc)) (formatOf (byteAt code pc)) (kinds-fit (byteAt code pc) (are pc))
 
 -- ---- where a block ends
 
-abbrev pub ends : Kind → Bool
+abbrev pub ends : Branch → Bool
 ends Near = true
 ends Far = true
 ends Table = true
@@ -191,12 +192,12 @@ ends Ends = true
 ends Plain = false
 
 -- one test over all opcodes
-ends-agree : (op : ℕ) → op < 256 → ends (kindOf op) ≡ endsBlock op
-unfolding kindOf endsBlock formatOf
+ends-agree : (op : ℕ) → op < 256 → ends (branchOf op) ≡ endsBlock op
+unfolding branchOf endsBlock formatOf
 ends-agree op below =
-    alike-is (ends (kindOf op)) (endsBlock op) (every-at (λ k. alike (ends (kindOf k)) (endsBlock k)) 256 tt op below)
+    alike-is (ends (branchOf op)) (endsBlock op) (every-at (λ k. alike (ends (branchOf k)) (endsBlock k)) 256 tt op below)
 
-after-is : (kind : Kind) (next : ℕ) → afterBy kind next ≡ pick (ends kind) (next ∷ []) []
+after-is : (kind : Branch) (next : ℕ) → afterBy kind next ≡ pick (ends kind) (next ∷ []) []
 after-is Near next = refl
 after-is Far next = refl
 after-is Table next = refl
@@ -211,4 +212,4 @@ pub leaders-agree :
 unfolding leadersAt targetsAt
 leaders-agree code are pc next =
     ap₂ _++_ (targets-agree code are pc)
-    (after-is (kindOf (byteAt code pc)) next ∙ ap (λ (b : Bool). pick b (next ∷ []) []) (ends-agree (byteAt code pc) (are pc)))
+    (after-is (branchOf (byteAt code pc)) next ∙ ap (λ (b : Bool). pick b (next ∷ []) []) (ends-agree (byteAt code pc) (are pc)))

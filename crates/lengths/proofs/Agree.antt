@@ -14,7 +14,7 @@ use Rattle.jvms.specs.Extent.{Extent, takes, reservedOpcode, notWidened, lowAbo
 use Rattle.jvms.specs.Extent.{natural, padding, defaultAt, signed32At, span, tableExtent, lookupExtent, widenedLocals, extentBy, extentAt}
 use Rattle.bytecode.specs.Length.{operandsAt, tableEntries, lookupPairs, tableBytes, lookupBytes, wideBytes}
 use Rattle.bytecode.specs.Length.{bytesBy, bytesOf, within, lengthOf}
-use Rattle.bytecode.specs.Signed.{i32At}
+use Rattle.reads.specs.Signed.{i32At}
 use Rattle.lengths.specs.Agreement.{counted, LengthsAgree, Counts}
 use Rattle.lengths.proofs.Signed.{signed-reading, count-is, span-is}
 

@@ -15,7 +15,7 @@ use Rattle.basics.specs.Bytes.{u16At, u32At, AreBytes}
 use Rattle.basics.specs.Choice.{pick}
 use Rattle.basics.proofs.Bytes.{u16-below, u32-below}
 use Rattle.jvms.specs.Extent.{natural}
-use Rattle.bytecode.specs.Signed.{lifted, i16At, i32At}
+use Rattle.reads.specs.Signed.{lifted, i16At, i32At}
 use Rattle.lengths.specs.Agreement.{SignedReading}
 
 pub lifted-is :

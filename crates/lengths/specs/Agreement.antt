@@ -9,7 +9,7 @@ use mir.Syntax.{w16, w32}
 use Rattle.basics.specs.Bytes.{u16At, u32At, AreBytes}
 use Rattle.jvms.specs.Extent.{Extent, takes, reservedOpcode, notWidened, lowAboveHigh, negativePairs, padding, extentAt}
 use Rattle.bytecode.specs.Length.{within, lengthOf}
-use Rattle.bytecode.specs.Signed.{i16At, i32At}
+use Rattle.reads.specs.Signed.{i16At, i32At}
 
 -- The bytes that document 01 counts: JVMS's where it has a format. Where it has none: one for a reserved opcode, four for
 -- `wide` before an opcode that it does not widen, a `tableswitch` without entries, a `lookupswitch` without pairs.

@@ -37,7 +37,7 @@ fn part_at(sample: &[u8], at: usize) -> Part {
         return Part::Cut;
     }
     let from = at + 2;
-    let size = bytecode::read_u16(sample, at);
+    let size = reads::read_u16(sample, at);
     if sample.len() - from < size {
         return Part::Cut;
     }

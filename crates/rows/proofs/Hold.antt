@@ -3,11 +3,12 @@
 use mathlib.Core.Path.{refl}
 use Rattle.basics.specs.Bytes.{u16At, u32At}
 use Rattle.jvms.specs.Format.{formatOf}
-use Rattle.bytecode.specs.Signed.{lifted, i16At, i32At}
+use Rattle.reads.specs.Signed.{lifted, i16At, i32At}
 use Rattle.bytecode.specs.Length.{tableEntries, lookupPairs, tableBytes, lookupBytes, wideBytes, bytesOf, fixedLength, within, lengthOf}
 use Rattle.leader.specs.Greatest.{upTo, greatest}
 use Rattle.leader.specs.Scan.{scanFrom, instructions, scanCount, leadersOf, answered, blockLeader}
-use Rattle.leader.specs.Targets.{kindOf, target, entryTargets, switchTargets, leadersAt}
+use Rattle.branch.specs.Branch.{branchOf}
+use Rattle.leader.specs.Targets.{target, entryTargets, switchTargets, leadersAt}
 use Rattle.descriptor.specs.Readers.{slotsOf, judged, parameters, startingAt, parameterAt, closing, slotsBehind, returnSlots}
 use Rattle.descriptor.specs.Search.{firstIn, firstFrom}
 use Rattle.descriptor.specs.Types.{brackets, typeBehind, fieldTypeAt, typeSlots, typesFrom, typesAt, typesOf}
@@ -45,7 +46,7 @@ use Rattle.rows.specs.Rows.{AllHold, none, _&_, rows}
 pub rows-hold : AllHold rows
 unfolding rows
     lengthOf within bytesOf formatOf wideBytes tableBytes tableEntries lookupBytes lookupPairs i16At i32At lifted u32At u16At
-    blockLeader answered instructions scanFrom scanCount leadersOf leadersAt kindOf target entryTargets switchTargets greatest upTo
+    blockLeader answered instructions scanFrom scanCount leadersOf leadersAt branchOf target entryTargets switchTargets greatest upTo
     parameters judged slotsOf typesOf typesAt typesFrom fieldTypeAt typeBehind brackets firstFrom firstIn typeSlots returnSlots closing slotsBehind
     parameterNames joined commaed typeNames typeName elementName baseName baseNames bracketPairs className dotted dotOf
     numbered numberOf answer typeReading methodReading parametersAt returnAt typeAt typeIn strictBrackets element isBase unnamedType

@@ -15,7 +15,8 @@ use Rattle.jvms.specs.Format.{formatOf}
 use Rattle.bytecode.specs.Length.{bytesOf, fixedLength, within, lengthOf}
 use Rattle.leader.specs.Greatest.{upTo, greatest}
 use Rattle.leader.specs.Scan.{scanFrom, instructions, scanCount, leadersOf, answered, blockLeader}
-use Rattle.leader.specs.Targets.{kindOf, leadersAt}
+use Rattle.branch.specs.Branch.{branchOf}
+use Rattle.leader.specs.Targets.{leadersAt}
 use Rattle.leader.specs.declared.Scan.the-variants.{Leader}
 use Rattle.descriptor.specs.Readers.{slotsOf, judged, parameters, closing, slotsBehind, returnSlots, fieldSlots}
 use Rattle.descriptor.specs.Search.{firstIn, firstFrom}
@@ -36,7 +37,7 @@ use Rattle.truth.specs.Example.{worked, pool, PremisesMet, NamedRightly}
 use Rattle.truth.proofs.Cause.{cause-true}
 
 leads : blockLeader lengthOf [] (worked .code) 11 ≡ Leader 0 9
-unfolding blockLeader instructions scanFrom scanCount leadersOf leadersAt kindOf answered greatest upTo lengthOf within bytesOf formatOf
+unfolding blockLeader instructions scanFrom scanCount leadersOf leadersAt branchOf answered greatest upTo lengthOf within bytesOf formatOf
 leads = refl
 
 -- the members are found

@@ -8,7 +8,8 @@ use borrow.Author.Needs.{needs}
 use denote.Ref.{now}
 use Rattle.basics.specs.Bytes.{byteAt}
 use Rattle.effects.specs.Depth.{ruleOf}
-use Rattle.fault.specs.Decoding.{actionOf, decodedAs}
+use Rattle.fault.specs.Decoding.{actionOf}
+use Rattle.fault.specs.Inside.{decodedAs}
 use Rattle.basics.proofs.Keys.{every-unkeyed}
 use Rattle.fault.proofs.Decode as decode
 use Rattle.fault.proofs.decode_fault.Statement.{statement}

@@ -7,17 +7,17 @@ use borrow.Author.Needs.{needs}
 use Rattle.basics.specs.Bytes.{byteAt}
 use Rattle.bytecode.specs.Length.{tableEntries, lookupPairs, tableBytes, lookupBytes}
 use Rattle.leader.specs.Greatest.{greatest}
-use Rattle.leader.specs.Targets.{kindOf}
-use Rattle.leader.specs.declared.Kind.the-variants.{Near, Far, Table, Lookup, Ends}
-use Rattle.leader.proofs.OfKind.{table-bytes, lookup-bytes, plain, up-to-next}
+use Rattle.branch.specs.Branch.{branchOf}
+use Rattle.branch.specs.declared.Branch.the-variants.{Near, Far, Table, Lookup, Ends}
+use Rattle.leader.proofs.OfBranch.{table-bytes, lookup-bytes, plain, up-to-next}
 use Rattle.leader.proofs.leaders_at.Statement.{statement}
 use Rattle.leader.proofs.leaders_at.Tie as tie
 
-shared-slice-read-kind-of : tie.Need-shared-slice-read-kind-of
-shared-slice-read-kind-of c = search needs
+shared-slice-read-branch-of : tie.Need-shared-slice-read-branch-of
+shared-slice-read-branch-of c = search needs
 
-kind-of-requires : tie.Need-kind-of-requires
-kind-of-requires c κs = search needs
+branch-of-requires : tie.Need-branch-of-requires
+branch-of-requires c κs = search needs
 
 enum-told : tie.Need-enum-told
 enum-told c = search needs
@@ -64,7 +64,7 @@ table-size :
     c .before .before .before .before .before .args .next ≡ c .before .before .before .before .before .args .pc + tableBytes (c .before .before .before .before .before .args .code .now) (c .before .before .before .before .before .args .pc)
 table-size c =
     let a = c .before .before .before .before .before .args in
-    let e : kindOf (byteAt (a .code .now) (a .pc)) ≡ Table = sym (c .before .before .kind-of .ensures) ∙ c .enum-told3 .given .1 in
+    let e : branchOf (byteAt (a .code .now) (a .pc)) ≡ Table = sym (c .before .before .branch-of .ensures) ∙ c .enum-told3 .given .1 in
     let byte : byteAt (a .code .now) (a .pc) < 256 = omega (arith, c .before .before .before .shared-slice-known2 .given (a .pc)) in
     omega (arith, table-bytes (a .code .now) (a .pc) byte e)
 
@@ -73,7 +73,7 @@ lookup-size :
     c .before .before .before .before .before .args .next ≡ c .before .before .before .before .before .args .pc + lookupBytes (c .before .before .before .before .before .args .code .now) (c .before .before .before .before .before .args .pc)
 lookup-size c =
     let a = c .before .before .before .before .before .args in
-    let e : kindOf (byteAt (a .code .now) (a .pc)) ≡ Lookup = sym (c .before .before .kind-of .ensures) ∙ c .enum-told4 .given .1 in
+    let e : branchOf (byteAt (a .code .now) (a .pc)) ≡ Lookup = sym (c .before .before .branch-of .ensures) ∙ c .enum-told4 .given .1 in
     let byte : byteAt (a .code .now) (a .pc) < 256 = omega (arith, c .before .before .before .shared-slice-known2 .given (a .pc)) in
     omega (arith, lookup-bytes (a .code .now) (a .pc) byte e)
 
@@ -120,20 +120,20 @@ enum-told-6 c = search needs
 returns : tie.Need-returns
 returns c =
     let a = c .before .before .before .before .before .before .before .before .args in
-    let e : kindOf (byteAt (a .code .now) (a .pc)) ≡ Near = sym (c .before .before .before .before .before .kind-of .ensures) ∙ c .before .before .before .enum-told .given .1 in
+    let e : branchOf (byteAt (a .code .now) (a .pc)) ≡ Near = sym (c .before .before .before .before .before .branch-of .ensures) ∙ c .before .before .before .enum-told .given .1 in
     up-to-next (a .code .now) (a .pc) (a .next) (a .fault) (a .best) Near (c .before .aim .result) (c .raise .result) e refl (cc) (c .raise .ensures)
 
 returns-2 : tie.Need-returns-2
 returns-2 c =
     let a = c .before .before .before .before .before .before .before .before .args in
-    let e : kindOf (byteAt (a .code .now) (a .pc)) ≡ Far = sym (c .before .before .before .before .before .kind-of .ensures) ∙ c .before .before .before .enum-told2 .given .1 in
+    let e : branchOf (byteAt (a .code .now) (a .pc)) ≡ Far = sym (c .before .before .before .before .before .branch-of .ensures) ∙ c .before .before .before .enum-told2 .given .1 in
     up-to-next (a .code .now) (a .pc) (a .next) (a .fault) (a .best) Far (c .before .aim2 .result) (c .raise2 .result) e refl (cc) (c .raise2 .ensures)
 
 returns-3 : tie.Need-returns-3
 unfolding tableBytes
 returns-3 c =
     let a = c .before .before .before .before .before .before .before .args in
-    let e : kindOf (byteAt (a .code .now) (a .pc)) ≡ Table = sym (c .before .before .before .before .kind-of .ensures) ∙ c .before .before .enum-told3 .given .1 in
+    let e : branchOf (byteAt (a .code .now) (a .pc)) ≡ Table = sym (c .before .before .before .before .branch-of .ensures) ∙ c .before .before .enum-told3 .given .1 in
     let counted : (a .next - a .pc - 13) / 4 ≡ tableEntries (a .code .now) (a .pc) = omega (arith, table-size (c .before .before)) in
     up-to-next (a .code .now) (a .pc) (a .next) (a .fault) (a .best) Table (c .before .switch-targets .result) (c .raise3 .result) e refl
     (rw counted at (c .before .switch-targets .ensures))
@@ -143,7 +143,7 @@ returns-4 : tie.Need-returns-4
 unfolding lookupBytes
 returns-4 c =
     let a = c .before .before .before .before .before .before .before .args in
-    let e : kindOf (byteAt (a .code .now) (a .pc)) ≡ Lookup = sym (c .before .before .before .before .kind-of .ensures) ∙ c .before .before .enum-told4 .given .1 in
+    let e : branchOf (byteAt (a .code .now) (a .pc)) ≡ Lookup = sym (c .before .before .before .before .branch-of .ensures) ∙ c .before .before .enum-told4 .given .1 in
     let counted : (a .next - a .pc - 9) / 8 ≡ lookupPairs (a .code .now) (a .pc) = omega (arith, lookup-size (c .before .before)) in
     up-to-next (a .code .now) (a .pc) (a .next) (a .fault) (a .best) Lookup (c .before .switch-targets2 .result) (c .raise4 .result) e refl
     (rw counted at (c .before .switch-targets2 .ensures))
@@ -153,20 +153,20 @@ returns-5 : tie.Need-returns-5
 unfolding greatest
 returns-5 c =
     let a = c .before .before .before .before .before .before .args in
-    let e : kindOf (byteAt (a .code .now) (a .pc)) ≡ Ends = sym (c .before .before .before .kind-of .ensures) ∙ c .before .enum-told5 .given .1 in
+    let e : branchOf (byteAt (a .code .now) (a .pc)) ≡ Ends = sym (c .before .before .before .branch-of .ensures) ∙ c .before .enum-told5 .given .1 in
     up-to-next (a .code .now) (a .pc) (a .next) (a .fault) (a .best) Ends (a .best) (c .raise5 .result) e refl (omega arith) (c .raise5 .ensures)
 
 returns-6 : tie.Need-returns-6
 returns-6 c =
     let a = c .before .before .before .before .before .args in
-    plain (a .code .now) (a .pc) (a .next) (a .fault) (a .best) (sym (c .before .before .kind-of .ensures) ∙ c .enum-told6 .given .1)
+    plain (a .code .now) (a .pc) (a .next) (a .fault) (a .best) (sym (c .before .before .branch-of .ensures) ∙ c .enum-told6 .given .1)
 
 pub leaders-at-spec : {M : Type 1} → statement M
 leaders-at-spec =
     tie.close
     (tie.spec
-    shared-slice-read-kind-of
-    kind-of-requires
+    shared-slice-read-branch-of
+    branch-of-requires
     enum-told
     add-read-i16
     read-i16-requires

@@ -1,10 +1,10 @@
--- `bytecode::read_i16` meets its contract. The lifted reading of the two bytes.
+-- `reads::read_i16` meets its contract. The lifted reading of the two bytes.
 -- Assumes nothing.
 use native.Mathlib.Omega.{arith}
 use borrow.Author.Needs.{needs}
-use Rattle.bytecode.specs.Signed.{i16At}
-use Rattle.bytecode.proofs.read_i16.Statement.{statement}
-use Rattle.bytecode.proofs.read_i16.Tie as tie
+use Rattle.reads.specs.Signed.{i16At}
+use Rattle.reads.proofs.read_i16.Statement.{statement}
+use Rattle.reads.proofs.read_i16.Tie as tie
 
 read-u16-requires : tie.Need-read-u16-requires
 read-u16-requires c κs = search needs

@@ -1,11 +1,11 @@
--- `bytecode::lift` meets its contract. A case on the sign.
+-- `reads::lift` meets its contract. A case on the sign.
 -- Assumes nothing.
 use native.Mathlib.Omega.{arith}
 use borrow.Author.Needs.{needs}
 use borrow.Author.Tests.{lt-ltb, le-ltb}
-use Rattle.bytecode.specs.Signed.{lifted}
-use Rattle.bytecode.proofs.lift.Statement.{statement}
-use Rattle.bytecode.proofs.lift.Tie as tie
+use Rattle.reads.specs.Signed.{lifted}
+use Rattle.reads.proofs.lift.Statement.{statement}
+use Rattle.reads.proofs.lift.Tie as tie
 
 add-result : tie.Need-add-result
 add-result c = search needs

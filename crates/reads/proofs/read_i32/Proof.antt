@@ -1,10 +1,10 @@
--- `bytecode::read_i32` meets its contract. The lifted reading of the four bytes.
+-- `reads::read_i32` meets its contract. The lifted reading of the four bytes.
 -- Assumes nothing.
 use native.Mathlib.Omega.{arith}
 use borrow.Author.Needs.{needs}
-use Rattle.bytecode.specs.Signed.{i32At}
-use Rattle.bytecode.proofs.read_i32.Statement.{statement}
-use Rattle.bytecode.proofs.read_i32.Tie as tie
+use Rattle.reads.specs.Signed.{i32At}
+use Rattle.reads.proofs.read_i32.Statement.{statement}
+use Rattle.reads.proofs.read_i32.Tie as tie
 
 read-u32-requires : tie.Need-read-u32-requires
 read-u32-requires c κs = search needs

@@ -1,10 +1,10 @@
--- `bytecode::byte_at` meets its contract. Past the end the byte is 0.
+-- `reads::byte_at` meets its contract. Past the end the byte is 0.
 -- Assumes nothing.
 use mathlib.Core.Path.{sym}
 use borrow.Author.Needs.{needs}
 use Rattle.basics.proofs.Bytes.{byte-past}
-use Rattle.bytecode.proofs.byte_at.Statement.{statement}
-use Rattle.bytecode.proofs.byte_at.Tie as tie
+use Rattle.reads.proofs.byte_at.Statement.{statement}
+use Rattle.reads.proofs.byte_at.Tie as tie
 
 shared-slice-read-result : tie.Need-shared-slice-read-result
 shared-slice-read-result c = search needs

@@ -1,12 +1,12 @@
--- `bytecode::read_u32` meets its contract. Past the end both halves are 0.
+-- `reads::read_u32` meets its contract. Past the end both halves are 0.
 -- Assumes nothing.
 use native.Mathlib.Omega.{arith}
 use mathlib.Core.Path.{sym}
 use borrow.Author.Needs.{needs}
 use Rattle.basics.specs.Bytes.{u32At}
 use Rattle.basics.proofs.Bytes.{u32-past}
-use Rattle.bytecode.proofs.read_u32.Statement.{statement}
-use Rattle.bytecode.proofs.read_u32.Tie as tie
+use Rattle.reads.proofs.read_u32.Statement.{statement}
+use Rattle.reads.proofs.read_u32.Tie as tie
 
 returns : tie.Need-returns
 returns c = (sym (u32-past _ _ (c .if1 .taken)), omega arith)

@@ -1,12 +1,12 @@
--- `bytecode::read_u16` meets its contract. Past the end both bytes are 0.
+-- `reads::read_u16` meets its contract. Past the end both bytes are 0.
 -- Assumes nothing.
 use native.Mathlib.Omega.{arith}
 use mathlib.Core.Path.{sym}
 use borrow.Author.Needs.{needs}
 use Rattle.basics.specs.Bytes.{u16At}
 use Rattle.basics.proofs.Bytes.{u16-past}
-use Rattle.bytecode.proofs.read_u16.Statement.{statement}
-use Rattle.bytecode.proofs.read_u16.Tie as tie
+use Rattle.reads.proofs.read_u16.Statement.{statement}
+use Rattle.reads.proofs.read_u16.Tie as tie
 
 returns : tie.Need-returns
 returns c = (sym (u16-past _ _ (c .if1 .taken)), omega arith)
