@@ -2,6 +2,7 @@
 // after its text, also where the output ends before it.
 use action::put_action_at;
 use block::Slot;
+use fault::Action;
 use text::put_at;
 ghost use Rattle.message.specs.Message.{causeText, messageText};
 ghost use Rattle.text.specs.Writing.{Written};

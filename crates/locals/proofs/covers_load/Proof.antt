@@ -1,13 +1,9 @@
 -- `locals::covers_load` meets its contract. A case on the slot and on the window's start.
 -- Assumes nothing.
-use borrow.Author.Needs.{needs}
 use borrow.Author.Tests.{eq-eqb, ne-eqb, le-leb, lt-leb}
 use Rattle.locals.proofs.Search.{window-same}
 use Rattle.locals.proofs.covers_load.Statement.{statement}
 use Rattle.locals.proofs.covers_load.Tie as tie
-
-sub-result : tie.Need-sub-result
-sub-result c = search needs
 
 returns : tie.Need-returns
 returns c =
@@ -26,4 +22,4 @@ returns-3 c =
     rw (ne-eqb (a .of) (a .slot) (c .if1 .left))
 
 pub covers-load-spec : {M : Type 1} → statement M
-covers-load-spec = tie.close (tie.spec sub-result returns returns-2 returns-3)
+covers-load-spec = tie.close (tie.spec returns returns-2 returns-3)
