@@ -11,8 +11,8 @@ use Rattle.casefile.specs.Whole.{caseOf}
 use Rattle.casefile.specs.declared.Case.{Case}
 use Rattle.casefile.specs.declared.Case.the-variants as cases
 use Rattle.text.specs.Writing.{most, over}
-use Rattle.block.specs.declared.Slot.{Slot}
-use Rattle.block.specs.declared.Slot.the-variants.{Other, Loaded}
+use Rattle.cell.specs.declared.Slot.{Slot}
+use Rattle.cell.specs.declared.Slot.the-variants.{Other, Loaded}
 use Rattle.fault.specs.Decoding.{decoded}
 use Rattle.fault.specs.declared.Action.{Action}
 use Rattle.fault.specs.declared.Fault.{Fault}

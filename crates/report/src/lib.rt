@@ -1,9 +1,9 @@
 // The report of a case (document 01, "Numbers returned"): the case is read, then reported on by its parts.
-use block::Slot;
 use block::Walk;
-use block::clear;
 use casefile::Case;
 use casefile::part_at;
+use cell::Slot;
+use cell::clear;
 use fault::Action;
 use fault::Fault;
 use leader::Scan;
@@ -13,9 +13,9 @@ ghost use mathlib.Core.Path.{_≡_};
 ghost use lib.Dec.{ltb};
 ghost use lib.ListN.{length, getD, replicate};
 ghost use Rattle.basics.specs.Choice.{pick};
-ghost use Rattle.block.specs.Cells.{unpacked};
+ghost use Rattle.cell.specs.Cell.{unpacked};
 ghost use Rattle.block.specs.Room.{blockWalk};
-ghost use Rattle.block.specs.declared.Slot.the-variants.{Other};
+ghost use Rattle.cell.specs.declared.Slot.the-variants.{Other};
 ghost use Rattle.message.specs.Message.{messageText};
 ghost use Rattle.report.specs.Report.{isInstance, kindOf, partsBy, said, saidOf, answerBy, outputBy, reportOf, reportedIn};
 ghost use Rattle.report.specs.Trace.{traceOf, traced};
@@ -61,7 +61,7 @@ fn slot_from(stack: &[u64], height: usize, depth: usize) -> Slot
     ensures { λ r. ⌜ r ≡ pick (ltb depth height) (unpacked (getD (now (stack .entry)) (height - 1 - depth) 0)) Other ⌝ }
 {
     if depth < height {
-        return block::unpack(stack[height - 1 - depth]);
+        return cell::unpack(stack[height - 1 - depth]);
     }
     Slot::Other
 }

@@ -12,7 +12,8 @@ use Rattle.jvms.specs.Stack.{entryOf}
 use Rattle.bytecode.specs.Length.{fixedLength}
 use Rattle.effects.specs.Rows.{rowOf}
 use Rattle.block.specs.Room.{completedFrom, completed, fits, blockWalk}
-use Rattle.block.specs.Walk.{cellOf, done, step, walkFrom, walk}
+use Rattle.cell.specs.Cell.{cellOf}
+use Rattle.block.specs.Walk.{done, step, walkFrom, walk}
 use Rattle.truth.specs.Cause.{HasForce}
 use Rattle.truth.specs.Translation.{since, TrueTranslation}
 
