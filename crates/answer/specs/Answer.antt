@@ -8,8 +8,8 @@ use lib.Dec.{leb}
 use lib.ListN.{length}
 use Rattle.basics.specs.Choice.{pick}
 use Rattle.text.specs.Writing.{most, over}
-use Rattle.block.specs.declared.Slot.{Slot}
-use Rattle.block.specs.declared.Slot.the-variants.{Other, Loaded}
+use Rattle.cell.specs.declared.Slot.{Slot}
+use Rattle.cell.specs.declared.Slot.the-variants.{Other, Loaded}
 use Rattle.answer.specs.declared.Report.{Report}
 use Rattle.answer.specs.declared.Report.the-variants as report
 

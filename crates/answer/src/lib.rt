@@ -1,5 +1,5 @@
 // What a report answers (document 01, "Numbers returned"), and how a message reaches the lent output.
-use block::Slot;
+use cell::Slot;
 use fault::Action;
 use message::put_message_at;
 ghost use mathlib.Core.Path.{_≡_};

@@ -15,9 +15,10 @@ use Rattle.tables.specs.Member.{memberFound}
 use Rattle.effects.specs.Lookup.{Lookup, lookupIn}
 use Rattle.effects.proofs.Known.{known-none, known-some}
 use Rattle.effects.specs.Rows.{Row, aload, gets, calls, rowOf}
-use Rattle.block.specs.Cells.{rowFrom, bare}
+use Rattle.row.specs.Code.{rowFrom}
+use Rattle.row.specs.declared.Row.{Row as CodeRow}
+use Rattle.block.specs.Inner.{bare}
 use Rattle.block.specs.Walk.{notModelled, blanks, load, Effect, fails, does, effectBy}
-use Rattle.block.specs.declared.Row.{Row as CodeRow}
 
 module _ (code : List ℕ) (pc : ℕ) where
   -- by the row that the code found

@@ -11,11 +11,13 @@ use lib.ListN.{replicate-append-replicate}
 use lib.Seq.{length-take-le, take-take, take-suc, drop-cons, getD-take, getD-set-other, drop-append-add, take-at, set-at}
 use lib.Seq.{drop-set-lt, take-set-lt, take-suc-set}
 use borrow.Author.Tests.{le-leb, lt-leb}
-use Rattle.basics.specs.Choice.{pick}
-use Rattle.block.specs.Cells.{packed, Clean, Laid, dupPlaces, dup2Places, swapPlaces}
+use Rattle.cell.specs.Cell.{packed}
+use Rattle.cell.specs.declared.Cell.the-variants.{Held, TooLarge}
+use Rattle.cell.proofs.Laws.{held-so, too-large}
+use Rattle.row.specs.Code.{dupPlaces, dup2Places, swapPlaces}
+use Rattle.block.specs.Inner.{Clean, Laid}
 use Rattle.block.specs.Room.{shown}
-use Rattle.block.specs.Walk.{cells, cellOf, Push, load, carried, does, refused, Made, made, pushed, applied, tooLarge}
-use Rattle.block.specs.declared.Cell.the-variants.{Held, TooLarge}
+use Rattle.block.specs.Walk.{cells, Push, load, carried, does, refused, Made, made, pushed, applied, tooLarge}
 use Rattle.block.specs.declared.Height.the-variants.{Refused, Over, High}
 
 drop-replicate : (j n : ℕ) → drop {A = ℕ} j (replicate n 0) ≡ replicate (n - j) 0
@@ -29,23 +31,6 @@ pub shows :
     drop (length slots) stack ≡ replicate (room - length slots) 0 → stack ≡ shown room slots
 shows room stack slots start rest =
     sym (take-append-drop (length slots) stack) ∙ ap₂ (λ (a b : List ℕ). a ++ b) start rest
-
--- ---- the cell of a load
-
-pub held-so :
-    (pc local v : ℕ) → packed pc local ≡ Held v → (leb (cellOf pc local) (2 ^ 64 - 1) ≡ true) × (v ≡ cellOf pc local)
-held-so pc local v e = by-test (leb (cellOf pc local) (2 ^ 64 - 1)) (cellOf pc local) e
-  where
-    by-test : (b : Bool) (cell : ℕ) → pick b (Held cell) TooLarge ≡ Held v → (b ≡ true) × (v ≡ cell)
-    by-test true cell e = let same : cell ≡ v = cc in (refl, sym same)
-    by-test false cell e = let z : _≡_ {A = ℕ} 0 1 = cc in absurd (omega arith)
-
-too-large : (pc local : ℕ) → packed pc local ≡ TooLarge → leb (cellOf pc local) (2 ^ 64 - 1) ≡ false
-too-large pc local e = by-test (leb (cellOf pc local) (2 ^ 64 - 1)) (cellOf pc local) e
-  where
-    by-test : (b : Bool) (cell : ℕ) → pick b (Held cell) TooLarge ≡ TooLarge → b ≡ false
-    by-test true cell e = let z : _≡_ {A = ℕ} 0 1 = cc in absurd (omega arith)
-    by-test false cell e = refl
 
 -- ---- an outcome in the cells
 

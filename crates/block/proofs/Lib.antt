@@ -2,6 +2,5 @@ pub mod Answers
 pub mod Effects
 pub mod Laying
 pub mod Looping
-pub mod OfOpcode
 pub mod Stepping
 pub mod Walking

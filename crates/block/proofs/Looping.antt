@@ -10,7 +10,7 @@ use lib.Seq.{length-take-le}
 use borrow.Author.Tests.{le-leb}
 use Rattle.basics.specs.Bytes.{AreBytes}
 use Rattle.effects.specs.Lookup.{Lookup, lookupIn}
-use Rattle.block.specs.Cells.{Clean, stepOf, steppedIn, Stepped}
+use Rattle.block.specs.Inner.{Clean, stepOf, steppedIn, Stepped}
 use Rattle.block.specs.Room.{completed, Roomed, fits, blockWalk, answerOf, shown, cellsOf}
 use Rattle.block.specs.Walk.{Reason, overshot, Outcome, goes, failed, walk}
 use Rattle.block.specs.declared.Step.{Step}

@@ -13,7 +13,7 @@ use Rattle.basics.specs.Choice.{pick}
 use Rattle.bytecode.specs.Length.{fixedLength}
 use Rattle.effects.specs.Lookup.{Lookup}
 use Rattle.effects.specs.Rows.{rowOf}
-use Rattle.block.specs.Cells.{bare, laidIn, Laid, Stepped}
+use Rattle.block.specs.Inner.{bare, laidIn, Laid, Stepped}
 use Rattle.block.specs.Walk.{Reason, tooFew, cells, blanks, load, carried, unread, Effect, fails, does, effectBy, Made}
 use Rattle.block.specs.Walk.{refused, made, applied, goes, passes, landed, step}
 use Rattle.block.specs.declared.Height.{Height}

@@ -15,7 +15,7 @@ use Rattle.jvms.specs.Format.{formatOf}
 use Rattle.bytecode.specs.Length.{fixedLength}
 use Rattle.effects.specs.Lookup.{Lookup}
 use Rattle.effects.specs.Rows.{Row, unmodelled, opaque, aload, aloadOf, carries, keeps, gets, calls, rowOf}
-use Rattle.block.specs.Cells.{stepOf, Stepped}
+use Rattle.block.specs.Inner.{stepOf, Stepped}
 use Rattle.block.specs.Room.{completing, completedFrom, Roomed, lacks, fits, judged, shown}
 use Rattle.block.specs.Walk.{Reason, pastEnd, notModelled, overshot, cells, effectBy, Made, refused, made, applied}
 use Rattle.block.specs.Walk.{Outcome, stops, goes, passes, landed, done, failed, step, after, walkFrom}

@@ -1,4 +1,4 @@
 pub mod Answers
-pub mod Cells
+pub mod Inner
 pub mod Room
 pub mod Walk

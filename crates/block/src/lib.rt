@@ -1,20 +1,22 @@
 // The walk of a block over a lent stack of cells (document 01, "The walk").
+use cell::Cell;
+use cell::clear;
 use descriptor::Params;
 use descriptor::Slots;
-use opcode::Opcode;
+use row::Row;
 ghost use mathlib.Core.Path.{_≡_};
 ghost use mathlib.Core.List.{[]};
 ghost use Prim.Native.Nat.{_+_, _<_};
 ghost use lib.Dec.{leb};
-ghost use lib.ListN.{length, take, replicate};
+ghost use lib.ListN.{length, take};
 ghost use Rattle.basics.specs.Bytes.{byteAt};
 ghost use Rattle.basics.specs.Choice.{pick};
 ghost use Rattle.bytecode.specs.Length.{FixedLengths};
 ghost use Rattle.index.specs.Index.{Indexed};
 ghost use Rattle.effects.specs.Lookup.{lookupIn};
 ghost use Rattle.effects.specs.Rows.{rowOf, aload as aloadRow, gets as getsRow, calls as callsRow};
-ghost use Rattle.block.specs.Cells.{packed, unpacked, dupPlaces, dup2Places, swapPlaces, rowFrom, effectFrom, bare};
-ghost use Rattle.block.specs.Cells.{Clean, Laid, Stepped};
+ghost use Rattle.row.specs.Code.{dupPlaces, dup2Places, swapPlaces};
+ghost use Rattle.block.specs.Inner.{effectFrom, bare, Clean, Laid, Stepped};
 ghost use Rattle.block.specs.Room.{blockWalk, answerOf, cellsOf};
 ghost use Rattle.block.specs.Walk.{cells, blanks, load as loadPush, carried, does, effectBy, applied, step as stepAt};
 ghost use Rattle.block.specs.declared.Step.the-variants.{Goes, Passes};
@@ -32,37 +34,6 @@ pub enum Walk {
     Failed { count: usize },
     // The height after the instruction at an index exceeds the lent stack.
     NoRoom { at: usize },
-}
-
-// A load as a cell.
-pub enum Cell {
-    Held(u64),
-    TooLarge,
-}
-
-// What a cell holds.
-pub enum Slot {
-    Other,
-    Loaded { load: usize, local: usize },
-}
-
-// What an opcode does to the slots.
-pub enum Row {
-    Unmodelled,
-    // Takes slots and pushes opaque ones.
-    Opaque { takes: usize, gives: usize },
-    // Pushes the load of a local: the next byte names it, or the opcode does.
-    Aload,
-    AloadOf { local: usize },
-    Dup,
-    Dup2,
-    Swap,
-    // checkcast: the list is kept.
-    Keeps,
-    // Takes slots and pushes those of the field that it cites.
-    Gets { takes: usize },
-    // Takes slots and the arguments of the method that it cites, and pushes those of its return.
-    Calls { takes: usize },
 }
 
 // What an instruction does to the slots, its operands read.
@@ -94,93 +65,6 @@ pub enum Step {
     Lacks,
     Passes,
     Goes { pc: usize, height: usize },
-}
-
-// The cell of a load. The greatest cell is 2^64 - 1.
-pub fn pack(load: usize, local: usize) -> Cell
-    ensures { λ r. ⌜ r ≡ packed load local ⌝ }
-{
-    let most: usize = 18446744073709551614;
-    if most < local {
-        return Cell::TooLarge;
-    }
-    if (most - local) / 256 < load {
-        return Cell::TooLarge;
-    }
-    Cell::Held((1 + 256 * load + local) as u64)
-}
-
-// The load of a cell.
-pub fn unpack(cell: u64) -> Slot
-    ensures { λ r. ⌜ r ≡ unpacked cell ⌝ }
-{
-    if cell == 0 {
-        return Slot::Other;
-    }
-    let rest = (cell - 1) as usize;
-    Slot::Loaded {
-        load: rest / 256,
-        local: rest % 256,
-    }
-}
-
-// The rows of constants, loads and stores, 0 to 78.
-fn local_row(op: u8) -> Row
-    requires { ⌜ op < 79 ⌝ }
-    ensures { λ r. ⌜ rowFrom r ≡ rowOf op ⌝ }
-{
-    match op {
-        Opcode::NOP => Row::Opaque { takes: 0, gives: 0 },
-        Opcode::ACONST_NULL..=Opcode::ICONST_5 => Row::Opaque { takes: 0, gives: 1 },
-        Opcode::LCONST_0..=Opcode::LCONST_1 => Row::Opaque { takes: 0, gives: 2 },
-        Opcode::FCONST_0..=Opcode::FCONST_2 => Row::Opaque { takes: 0, gives: 1 },
-        Opcode::DCONST_0..=Opcode::DCONST_1 => Row::Opaque { takes: 0, gives: 2 },
-        Opcode::BIPUSH..=Opcode::LDC_W => Row::Opaque { takes: 0, gives: 1 },
-        Opcode::ILOAD | Opcode::FLOAD => Row::Opaque { takes: 0, gives: 1 },
-        Opcode::LDC2_W | Opcode::LLOAD | Opcode::DLOAD => Row::Opaque { takes: 0, gives: 2 },
-        Opcode::ALOAD => Row::Aload,
-        Opcode::ILOAD_0..=Opcode::ILOAD_3 => Row::Opaque { takes: 0, gives: 1 },
-        Opcode::LLOAD_0..=Opcode::LLOAD_3 => Row::Opaque { takes: 0, gives: 2 },
-        Opcode::FLOAD_0..=Opcode::FLOAD_3 => Row::Opaque { takes: 0, gives: 1 },
-        Opcode::DLOAD_0..=Opcode::DLOAD_3 => Row::Opaque { takes: 0, gives: 2 },
-        Opcode::ALOAD_0..=Opcode::ALOAD_3 => Row::AloadOf {
-            local: (op - Opcode::ALOAD_0) as usize,
-        },
-        Opcode::LALOAD | Opcode::DALOAD => Row::Opaque { takes: 2, gives: 2 },
-        Opcode::IALOAD..=Opcode::SALOAD => Row::Opaque { takes: 2, gives: 1 },
-        Opcode::LSTORE | Opcode::DSTORE => Row::Opaque { takes: 2, gives: 0 },
-        Opcode::LSTORE_0..=Opcode::LSTORE_3 => Row::Opaque { takes: 2, gives: 0 },
-        Opcode::DSTORE_0..=Opcode::DSTORE_3 => Row::Opaque { takes: 2, gives: 0 },
-        _ => Row::Opaque { takes: 1, gives: 0 },
-    }
-}
-
-// The row of an opcode.
-fn row_of(op: u8) -> Row
-    ensures { λ r. ⌜ rowFrom r ≡ rowOf op ⌝ }
-{
-    if op <= Opcode::ASTORE_3 {
-        return local_row(op);
-    }
-    match op {
-        Opcode::POP => Row::Opaque { takes: 1, gives: 0 },
-        Opcode::POP2 => Row::Opaque { takes: 2, gives: 0 },
-        Opcode::DUP => Row::Dup,
-        Opcode::DUP2 => Row::Dup2,
-        Opcode::SWAP => Row::Swap,
-        Opcode::IINC => Row::Opaque { takes: 0, gives: 0 },
-        Opcode::GETSTATIC => Row::Gets { takes: 0 },
-        Opcode::GETFIELD => Row::Gets { takes: 1 },
-        Opcode::INVOKEVIRTUAL | Opcode::INVOKESPECIAL | Opcode::INVOKEINTERFACE => Row::Calls {
-            takes: 1,
-        },
-        Opcode::INVOKESTATIC => Row::Calls { takes: 0 },
-        Opcode::NEW => Row::Opaque { takes: 0, gives: 1 },
-        Opcode::NEWARRAY..=Opcode::ARRAYLENGTH => Row::Opaque { takes: 1, gives: 1 },
-        Opcode::CHECKCAST => Row::Keeps,
-        Opcode::INSTANCEOF => Row::Opaque { takes: 1, gives: 1 },
-        _ => Row::Unmodelled,
-    }
 }
 
 // The effect of `aload`, which names its local by a byte.
@@ -267,7 +151,7 @@ fn effect_at(code: &[u8], members: &[u8], count: usize, table: &[usize], pc: usi
         ≡ bare (effectBy (lookupIn (now (members .entry)) count) (now (code .entry)) pc
         (rowOf (byteAt (now (code .entry)) pc))) ⌝ }
 {
-    match row_of(code[pc]) {
+    match row::row_of(code[pc]) {
         Row::Unmodelled => Effect::Fails,
         Row::Opaque { takes, gives } => Effect::Opaque {
             takes,
@@ -286,17 +170,6 @@ fn effect_at(code: &[u8], members: &[u8], count: usize, table: &[usize], pc: usi
         },
         Row::Gets { takes } => get_effect(code, members, count, table, pc, takes),
         Row::Calls { takes } => call_effect(code, members, count, table, pc, takes),
-    }
-}
-
-// Zeroes the lent cells.
-pub fn clear(stack: &mut [u64])
-    ensures { λ r. ⌜ now (stack .exit) ≡ replicate (length (now (stack .entry))) 0 ⌝ }
-{
-    let mut i = 0;
-    while i < stack.len() {
-        stack[i] = 0;
-        i += 1;
     }
 }
 
@@ -327,7 +200,7 @@ fn push_load(stack: &mut [u64], height: usize, pc: usize, local: usize) -> Heigh
     ensures { λ r. ⌜ Laid (now (stack .entry)) r (now (stack .exit))
         (applied cells pc (does 0 (loadPush local)) (take height (now (stack .entry)))) ⌝ }
 {
-    let Cell::Held(cell) = pack(pc, local) else {
+    let Cell::Held(cell) = cell::pack(pc, local) else {
         return Height::Refused;
     };
     if stack.len() <= height {
@@ -461,12 +334,22 @@ fn walk_block(
         (blockWalk (now (code .entry)) (now (members .entry)) count leader fault (length (now (stack .entry)))) ⌝ }
 {
     clear(stack);
-    let lens = bytecode::fixed_lengths();
+    let lengths = bytecode::fixed_lengths();
     let mut pc = leader;
     let mut height: usize = 0;
     let mut completed: usize = 0;
     while pc < fault {
-        match step_at(&lens, code, members, count, table, pc, fault, stack, height) {
+        match step_at(
+            &lengths,
+            code,
+            members,
+            count,
+            table,
+            pc,
+            fault,
+            stack,
+            height,
+        ) {
             Step::Stops => {
                 clear(&mut stack[..height]);
                 return Walk::Failed { count: completed };

@@ -13,8 +13,8 @@ use Rattle.tables.specs.Member.{memberFound}
 use Rattle.casefile.specs.Whole.{longest}
 use Rattle.names.specs.Names.{className, parameterNames}
 use Rattle.locals.specs.Name.{localName}
-use Rattle.block.specs.declared.Slot.{Slot}
-use Rattle.block.specs.declared.Slot.the-variants.{Other, Loaded}
+use Rattle.cell.specs.declared.Slot.{Slot}
+use Rattle.cell.specs.declared.Slot.the-variants.{Other, Loaded}
 use Rattle.fault.specs.declared.Action.{Action}
 use Rattle.fault.specs.declared.Action.the-variants.{ReadField, AssignField, Invoke, LoadArray, StoreArray, ReadLength, ThrowException, EnterBlock, ExitBlock}
 use Rattle.action.specs.Action.{actionText}

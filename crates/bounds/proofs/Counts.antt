@@ -29,8 +29,8 @@ use Rattle.effects.specs.Lookup.{Lookup, lookupIn}
 use Rattle.effects.specs.Rows.{Row, rowOf}
 use Rattle.block.specs.Room.{Completed, Roomed, lacks, fits, judged, completed, blockWalk}
 use Rattle.block.specs.Walk.{Marks, cells, Outcome, stops, goes, passes, Walked, done, failed, overshot, ended, after, step, walkFrom, walk}
-use Rattle.block.specs.declared.Slot.{Slot}
-use Rattle.block.specs.declared.Slot.the-variants.{Other, Loaded}
+use Rattle.cell.specs.declared.Slot.{Slot}
+use Rattle.cell.specs.declared.Slot.the-variants.{Other, Loaded}
 use Rattle.fault.specs.Decoding.{decoded}
 use Rattle.fault.specs.declared.Fault.{Fault}
 use Rattle.fault.specs.declared.Fault.the-variants.{Failed, Nothing}

@@ -9,7 +9,7 @@ use Rattle.casefile.specs.Whole.{longest, caseOf}
 use Rattle.casefile.specs.declared.Case.the-variants as cases
 use Rattle.casefile.specs.declared.Places.{Places}
 use Rattle.text.specs.Writing.{most}
-use Rattle.block.specs.declared.Slot.{Slot}
+use Rattle.cell.specs.declared.Slot.{Slot}
 use Rattle.fault.specs.declared.Action.{Action}
 use Rattle.answer.specs.Answer.{needed}
 use Rattle.report.specs.Report.{messageOf}

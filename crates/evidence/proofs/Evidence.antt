@@ -1,14 +1,14 @@
 -- A name is evidence. Rests on condition 3 and on when the kind is 2.
 -- Assumes nothing.
-use Prim.Native.Nat.{ℕ, zero, suc, _+_, _-_, _/_, _%_, _<_}
+use Prim.Native.Nat.{ℕ, zero, suc, _+_, _-_, _<_}
 use native.Mathlib.Omega.{arith}
 use mathlib.Core.Path.{_≡_, refl, _∙_, sym, ap}
 use mathlib.Core.Bool.{Bool, true, false}
 use mathlib.Core.List.{List, [], _∷_}
-use lib.Dec.{eqb, ltb, leb, lit<}
+use lib.Dec.{ltb, leb, lit<}
 use lib.ListN.{length, getD, take, drop, replicate}
 use lib.Seq.{getD-take, take-at}
-use borrow.Author.Tests.{ltb-true, eqb-false}
+use borrow.Author.Tests.{ltb-true}
 use Rattle.basics.specs.Bytes.{byteAt, u16At, AreBytes}
 use Rattle.basics.specs.Choice.{pick, both}
 use Rattle.jvms.specs.Machine.{Pool}
@@ -20,10 +20,9 @@ use Rattle.cases.proofs.Reading.{bytes-behind}
 use Rattle.text.specs.Writing.{over}
 use Rattle.effects.specs.Depth.{Depth, nowhere, at, ruleOf, depthBy, depthOf}
 use Rattle.effects.specs.Lookup.{lookupIn}
-use Rattle.block.specs.Cells.{unpacked}
+use Rattle.cell.specs.Cell.{cellOf}
+use Rattle.cell.proofs.Laws.{cell-of-unpacked}
 use Rattle.block.specs.Room.{answerOf, shown, cellsOf}
-use Rattle.block.specs.Walk.{cellOf}
-use Rattle.block.specs.declared.Slot.the-variants.{Other, Loaded}
 use Rattle.fault.specs.Decoding.{invokes, actionOf, constructs, failedAt, decoded}
 use Rattle.fault.specs.declared.Action.{Action}
 use Rattle.fault.specs.declared.Fault.the-variants.{Failed, Nothing}
@@ -65,21 +64,6 @@ module _ (code members : List ℕ) (count fault depth : ℕ) (action : Action) w
       ltb-true fault (length code)
       (not-cut (ltb fault (length code)) (depthBy (ruleOf (byteAt code fault)) (lookupIn members count) code fault) depth e)
 
--- ---- a cell that is a load is the cell of that load, whose local is below 256
-
-cell-is : (cell load local : ℕ) → unpacked cell ≡ Loaded load local → (local < 256) × (cell ≡ cellOf load local)
-cell-is cell load local e = by-test (eqb cell 0) refl e
-  where
-    by-test :
-        (b : Bool) → eqb cell 0 ≡ b → pick b Other (Loaded ((cell - 1) / 256) ((cell - 1) % 256)) ≡ Loaded load local →
-        (local < 256) × (cell ≡ cellOf load local)
-    by-test true t e = let z : _≡_ {A = ℕ} 0 1 = cc in absurd (omega arith)
-    by-test false t e =
-        let some : cell ≡ 0 → ⊥ = eqb-false cell 0 t in
-        let low : (cell - 1) % 256 ≡ local = cc in
-        let high : (cell - 1) / 256 ≡ load = cc in
-        (omega (arith, low), omega (arith, low, high, some))
-
 -- a slot in the cells that show a slot list
 shown-at : (room : ℕ) (slots : List ℕ) (k : ℕ) → k < length slots → getD (shown room slots) k 0 ≡ getD slots k 0
 shown-at room slots k below =
@@ -120,8 +104,8 @@ module _ (p : Parts) (pool : Pool) (room : ℕ) (message : List ℕ) (scan block
         described = λ pc here below. described (c .leader) scan pc (c .leads) here below;
       }
 
-  marked : (c .local < 256) × (getD (c .slots) (length (c .slots) - 1 - c .depth) 0 ≡ cellOf (c .load) (c .local))
-  marked = cell-is (getD (c .slots) (length (c .slots) - 1 - c .depth) 0) (c .load) (c .local) (c .slot)
+  marked : (getD (c .slots) (length (c .slots) - 1 - c .depth) 0 ≡ cellOf (c .load) (c .local)) × (c .local < 256)
+  marked = cell-of-unpacked (getD (c .slots) (length (c .slots) - 1 - c .depth) 0) (c .load) (c .local) (c .slot)
 
   proven :
       (Val : Type 0) (opaque : ℕ → ℕ → Val) (entering : List Val) (locals : ℕ → Val) →
@@ -129,9 +113,9 @@ module _ (p : Parts) (pool : Pool) (room : ℕ) (message : List ℕ) (scan block
   proven Val opaque entering locals =
       let k : ℕ = length (c .slots) - 1 - c .depth in
       let here : getD (shown room (c .slots)) k 0 ≡ cellOf (c .load) (c .local) =
-      shown-at room (c .slots) k (omega (arith, c .high)) ∙ marked .1 in
+      shown-at room (c .slots) k (omega (arith, c .high)) ∙ marked .0 in
       let cause =
-      cause-true asked pool premises (c .depth) (c .load) (c .local) deep (c .high) (marked .0) here Val opaque entering
+      cause-true asked pool premises (c .depth) (c .load) (c .local) deep (c .high) (marked .1) here Val opaque entering
       locals in
       record {
         reached = condition-3 asked pool premises .translated Val opaque entering locals .reached;

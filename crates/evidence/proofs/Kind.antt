@@ -15,11 +15,11 @@ use Rattle.leader.specs.Scan.{blockLeader}
 use Rattle.leader.specs.declared.Scan.{Scan}
 use Rattle.leader.specs.declared.Scan.the-variants.{Leader, Unmeasured}
 use Rattle.casefile.specs.Parts.{Parts}
-use Rattle.block.specs.Cells.{unpacked}
+use Rattle.cell.specs.Cell.{unpacked}
 use Rattle.block.specs.Room.{Roomed, lacks, fits, blockWalk}
 use Rattle.block.specs.Walk.{done, failed}
-use Rattle.block.specs.declared.Slot.{Slot}
-use Rattle.block.specs.declared.Slot.the-variants.{Other, Loaded}
+use Rattle.cell.specs.declared.Slot.{Slot}
+use Rattle.cell.specs.declared.Slot.the-variants.{Other, Loaded}
 use Rattle.fault.specs.Decoding.{decoded}
 use Rattle.fault.specs.declared.Action.{Action}
 use Rattle.fault.specs.declared.Fault.{Fault}

@@ -9,10 +9,10 @@ use Rattle.bytecode.specs.Length.{lengthOf}
 use Rattle.leader.specs.Scan.{blockLeader}
 use Rattle.leader.specs.declared.Scan.the-variants.{Leader}
 use Rattle.casefile.specs.Parts.{Parts}
-use Rattle.block.specs.Cells.{unpacked}
+use Rattle.cell.specs.Cell.{unpacked}
 use Rattle.block.specs.Room.{fits, blockWalk}
 use Rattle.block.specs.Walk.{done}
-use Rattle.block.specs.declared.Slot.the-variants.{Loaded}
+use Rattle.cell.specs.declared.Slot.the-variants.{Loaded}
 use Rattle.fault.specs.Decoding.{decoded}
 use Rattle.fault.specs.declared.Action.{Action}
 use Rattle.fault.specs.declared.Fault.the-variants.{Failed}

@@ -1,9 +1,9 @@
 // The C interface of the library: numbers and slices in, structs of numbers out. Every function takes any input.
 use answer::Report;
 use block::Walk;
-use block::clear;
 use bytecode::Measure;
 use casefile::Case;
+use cell::clear;
 use descriptor::Params;
 use descriptor::Slots;
 use items::part_at;

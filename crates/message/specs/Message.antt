@@ -5,8 +5,8 @@ use mathlib.Core.Bool.{Bool}
 use mathlib.Core.List.{List, [], _++_}
 use Rattle.basics.specs.Ascii.{ascii}
 use Rattle.locals.specs.Name.{localName}
-use Rattle.block.specs.declared.Slot.{Slot}
-use Rattle.block.specs.declared.Slot.the-variants.{Other, Loaded}
+use Rattle.cell.specs.declared.Slot.{Slot}
+use Rattle.cell.specs.declared.Slot.the-variants.{Other, Loaded}
 use Rattle.fault.specs.declared.Action.{Action}
 use Rattle.action.specs.Action.{actionText}
 

@@ -1,7 +1,7 @@
 // The message's text (document 01, "Action and cause"), written from a place of the output on. Each function answers the place
 // after its text, also where the output ends before it.
 use action::put_action_at;
-use block::Slot;
+use cell::Slot;
 use fault::Action;
 use text::put_at;
 ghost use Rattle.message.specs.Message.{causeText, messageText};

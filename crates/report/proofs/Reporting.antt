@@ -5,7 +5,7 @@ use mathlib.Core.Bool.{Bool}
 use mathlib.Core.List.{List}
 use mathlib.Core.Path.{_≡_}
 use lib.ListN.{length}
-use Rattle.block.specs.declared.Slot.{Slot}
+use Rattle.cell.specs.declared.Slot.{Slot}
 use Rattle.casefile.specs.Parts.{Parts}
 use Rattle.fault.specs.Decoding.{decoded}
 use Rattle.fault.specs.declared.Action.{Action}

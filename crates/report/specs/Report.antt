@@ -6,7 +6,7 @@ use Rattle.casefile.specs.Parts.{Parts, partsOf}
 use Rattle.casefile.specs.Whole.{caseOf}
 use Rattle.casefile.specs.declared.Case.{Case}
 use Rattle.casefile.specs.declared.Case.the-variants as cases
-use Rattle.block.specs.declared.Slot.{Slot}
+use Rattle.cell.specs.declared.Slot.{Slot}
 use Rattle.answer.specs.Answer.{kindOf, Said, silent, roomless, said, answerBy, outputBy}
 use Rattle.fault.specs.Decoding.{decoded}
 use Rattle.fault.specs.declared.Action.{Action}

@@ -1,8 +1,8 @@
 // The report of a case (document 01, "Numbers returned"): the case is read, then reported on by its parts.
 use answer::Report;
 use answer::write_message;
-use block::clear;
 use casefile::Case;
+use cell::clear;
 use fault::Fault;
 use items::part_at;
 use locals::is_instance;

@@ -3,8 +3,8 @@
 //
 // The stored lines were made by the Rust's own simulate_block, given the same codes and members. It tells neither counts
 // nor heights on the way: these are from its answers for each later fault, the next that it reaches ending an instruction.
-use block::Slot;
 use block::Walk;
+use cell::Slot;
 use libc::STDOUT_FILENO;
 ghost use Prim.Native.Nat.{_<_};
 
@@ -37,7 +37,7 @@ fn say_code(code: &[u8]) {
 }
 
 fn say_cell(cell: u64) {
-    match block::unpack(cell) {
+    match cell::unpack(cell) {
         Slot::Other => say(b" 0"),
         Slot::Loaded { load, local } => {
             say_number(b" a", local);

@@ -10,11 +10,11 @@ use lib.ListN.{length, getD, take, drop, replicate, length-append, replicate-app
 use lib.Seq.{getD-take, take-at, drop-at, length-take-le}
 use borrow.Author.Tests.{ltb-true}
 use Rattle.basics.specs.Choice.{pick}
-use Rattle.block.specs.Cells.{unpacked}
+use Rattle.cell.specs.Cell.{unpacked}
 use Rattle.block.specs.Room.{Roomed, lacks, fits, answerOf, shown, cellsOf}
 use Rattle.block.specs.Walk.{done, failed}
-use Rattle.block.specs.declared.Slot.the-variants.{Other}
-use Rattle.block.specs.declared.Slot.{Slot}
+use Rattle.cell.specs.declared.Slot.the-variants.{Other}
+use Rattle.cell.specs.declared.Slot.{Slot}
 use Rattle.block.specs.declared.Walk.the-variants.{Done, Failed, NoRoom}
 use Rattle.trace.specs.Trace.{slotFrom, traceOf}
 use Rattle.trace.specs.declared.Trace.the-variants.{NoRoom as LacksRoom, Traced}

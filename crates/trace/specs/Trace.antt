@@ -9,11 +9,11 @@ use Rattle.bytecode.specs.Length.{lengthOf}
 use Rattle.leader.specs.Scan.{blockLeader}
 use Rattle.leader.specs.declared.Scan.{Scan}
 use Rattle.leader.specs.declared.Scan.the-variants.{Leader, Unmeasured}
-use Rattle.block.specs.Cells.{unpacked}
+use Rattle.cell.specs.Cell.{unpacked}
 use Rattle.block.specs.Room.{Roomed, lacks, fits, blockWalk}
 use Rattle.block.specs.Walk.{done, failed}
-use Rattle.block.specs.declared.Slot.{Slot}
-use Rattle.block.specs.declared.Slot.the-variants.{Other}
+use Rattle.cell.specs.declared.Slot.{Slot}
+use Rattle.cell.specs.declared.Slot.the-variants.{Other}
 use Rattle.trace.specs.declared.Trace.{Trace}
 use Rattle.trace.specs.declared.Trace.the-variants.{NoRoom, Traced}
 

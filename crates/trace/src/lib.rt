@@ -1,16 +1,16 @@
 // The cause of a fault, traced over the block that it lies in (document 01, "Action and cause").
-use block::Slot;
 use block::Walk;
-use block::clear;
+use cell::Slot;
+use cell::clear;
 use leader::Scan;
 ghost use Prim.Native.Nat.{_-_, _≤_};
 ghost use mathlib.Core.Path.{_≡_};
 ghost use lib.Dec.{ltb};
 ghost use lib.ListN.{length, getD, replicate};
 ghost use Rattle.basics.specs.Choice.{pick};
-ghost use Rattle.block.specs.Cells.{unpacked};
+ghost use Rattle.cell.specs.Cell.{unpacked};
 ghost use Rattle.block.specs.Room.{blockWalk};
-ghost use Rattle.block.specs.declared.Slot.the-variants.{Other};
+ghost use Rattle.cell.specs.declared.Slot.the-variants.{Other};
 ghost use Rattle.trace.specs.Trace.{traceOf, traced};
 
 // What tracing a cause answers.
@@ -33,7 +33,7 @@ fn slot_from(stack: &[u64], height: usize, depth: usize) -> Slot
     ensures { λ r. ⌜ r ≡ pick (ltb depth height) (unpacked (getD (now (stack .entry)) (height - 1 - depth) 0)) Other ⌝ }
 {
     if depth < height {
-        return block::unpack(stack[height - 1 - depth]);
+        return cell::unpack(stack[height - 1 - depth]);
     }
     Slot::Other
 }

@@ -5,7 +5,7 @@ use native.Mathlib.Omega.{arith}
 use mathlib.Core.Path.{_≡_, _∙_}
 use lib.ListN.{length, getD, take}
 use lib.Seq.{getD-take}
-use Rattle.block.specs.Walk.{cellOf}
+use Rattle.cell.specs.Cell.{cellOf}
 use Rattle.truth.specs.Cause.{CauseTrue}
 use Rattle.truth.specs.Translation.{since}
 use Rattle.truth.proofs.Condition.{slots-tall, condition-3}

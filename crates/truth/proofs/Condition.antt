@@ -14,11 +14,12 @@ use Rattle.effects.specs.Lookup.{Lookup, lookupIn}
 use Rattle.effects.specs.Rows.{rowOf}
 use Rattle.effects.proofs.Rows.{rows-agree}
 use Rattle.block.specs.Room.{completed, blockWalk}
-use Rattle.block.specs.Walk.{cells, cellOf, walk}
+use Rattle.cell.specs.Cell.{cellOf}
+use Rattle.block.specs.Walk.{cells, walk}
 use Rattle.truth.specs.Condition.{Described, Findings, Premises, Condition3}
 use Rattle.truth.specs.Relation.{Setting, Speaks, Given, Translated}
 use Rattle.truth.specs.Translation.{since, HeldWhen, Translates}
-use Rattle.truth.proofs.Cell.{cell-injective, no-load-is-zero}
+use Rattle.cell.proofs.Laws.{cell-injective, no-load-is-zero}
 use Rattle.truth.proofs.Held.{same-length, held-at}
 use Rattle.truth.proofs.Room.{Fitted, fitted}
 use Rattle.truth.proofs.Slot.{very-slot}

@@ -14,7 +14,8 @@ use Rattle.jvms.specs.Stack.{entryOf}
 use Rattle.bytecode.specs.Length.{fixedLength}
 use Rattle.effects.specs.Rows.{rowOf}
 use Rattle.block.specs.Room.{completedFrom, completed, blockWalk, cellsOf}
-use Rattle.block.specs.Walk.{cellOf, step, walkFrom, walk}
+use Rattle.cell.specs.Cell.{cellOf}
+use Rattle.block.specs.Walk.{step, walkFrom, walk}
 use Rattle.truth.specs.Cause.{Leaves, HasForce}
 use Rattle.truth.specs.Translation.{since, TrueTranslation}
 

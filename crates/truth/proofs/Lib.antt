@@ -1,7 +1,6 @@
 pub mod Above
 pub mod Carried
 pub mod Cause
-pub mod Cell
 pub mod Condition
 pub mod Example
 pub mod Force

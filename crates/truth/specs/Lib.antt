@@ -1,5 +1,4 @@
 pub mod Cause
-pub mod Cell
 pub mod Condition
 pub mod Example
 pub mod Relation

@@ -5,7 +5,7 @@ use mathlib.Core.Path.{_≡_}
 use mathlib.Core.List.{List}
 use lib.ListN.{length, take, getD}
 use Rattle.jvms.specs.Machine.{Pool, State, ran}
-use Rattle.block.specs.Walk.{cellOf}
+use Rattle.cell.specs.Cell.{cellOf}
 
 -- the machine after so many instructions from the leader, with any opaque results, entering stack and locals
 abbrev pub since : {Val : Type 0} → Pool → List ℕ → (ℕ → ℕ → Val) → ℕ → List Val → (ℕ → Val) → ℕ → State Val

@@ -4,7 +4,7 @@ use native.Mathlib.Omega.{arith}
 use mathlib.Core.Path.{sym}
 use lib.ListN.{length-set}
 use borrow.Author.Needs.{needs}
-use Rattle.block.specs.Cells.{dup2Places}
+use Rattle.row.specs.Code.{dup2Places}
 use Rattle.block.specs.Walk.{carried}
 use Rattle.block.proofs.Laying as laying
 use Rattle.block.proofs.push_dup2.Statement.{statement}

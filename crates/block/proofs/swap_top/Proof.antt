@@ -4,7 +4,7 @@ use native.Mathlib.Omega.{arith}
 use mathlib.Core.Path.{sym}
 use lib.ListN.{length-set}
 use borrow.Author.Needs.{needs}
-use Rattle.block.specs.Cells.{swapPlaces}
+use Rattle.row.specs.Code.{swapPlaces}
 use Rattle.block.specs.Walk.{carried}
 use Rattle.block.proofs.Laying as laying
 use Rattle.block.proofs.swap_top.Statement.{statement}

@@ -12,11 +12,11 @@ use Rattle.block.proofs.walk_block.Statement.{statement}
 use Rattle.block.proofs.walk_block.Tie as tie
 
 abbrev Inv-loop : tie.InvT-loop
-Inv-loop code members count table leader fault stack₀ lens pc₀ height₀ completed₀ stack pc height completed =
+Inv-loop code members count table leader fault stack₀ lengths pc₀ height₀ completed₀ stack pc height completed =
     looping.Inv code members count leader fault (length stack₀) stack pc height completed
 
 abbrev μ-loop : tie.MeasureT-loop
-μ-loop code members count table leader fault stack₀ lens pc₀ height₀ completed₀ stack pc height completed = fault - pc
+μ-loop code members count table leader fault stack₀ lengths pc₀ height₀ completed₀ stack pc height completed = fault - pc
 
 clear-requires : tie.Need-clear-requires Inv-loop μ-loop
 clear-requires c κs = search needs

@@ -1,4 +1,4 @@
--- The row of an opcode, known by computed tests over runs of opcodes.
+-- The row of an opcode in any table, known by computed tests over runs of opcodes.
 -- Assumes nothing.
 use Prim.Native.Nat.{ℕ, _+_, _≤_, _<_}
 use mathlib.Core.Path.{_≡_, refl, _∙_, sym, ap}
@@ -7,7 +7,7 @@ use mathlib.Core.List.{List, [], _∷_}
 use lib.Dec.{T, eqb}
 use lib.ListN.{getD, drop}
 use Rattle.basics.specs.Choice.{pick, sameList}
-use Rattle.effects.specs.Rows.{Row, unmodelled, opaque, aload, aloadOf, carries, keeps, gets, calls, rowOf}
+use Rattle.effects.specs.Rows.{Row, unmodelled, opaque, aload, aloadOf, carries, keeps, gets, calls}
 use Rattle.basics.proofs.Every.{every, every-from}
 use Rattle.basics.proofs.Keys.{Unkeyed, orKey, every-unkeyed}
 use Rattle.basics.proofs.Same.{are-same}
@@ -44,20 +44,22 @@ back keeps = refl
 back (gets takes) = refl
 back (calls takes) = refl
 
-abbrev pub is : Row → ℕ → Bool
-is row op = sameList (number row) (number (rowOf op))
+-- rows: a table
+module _ (rows : ℕ → Row) where
+  abbrev pub is : Row → ℕ → Bool
+  is row op = sameList (number row) (number (rows op))
 
-known : (row : Row) (op : ℕ) → T (is row op) → row ≡ rowOf op
-known row op t = sym (back row) ∙ ap numbered (are-same (number row) (number (rowOf op)) t) ∙ back (rowOf op)
+  known : (row : Row) (op : ℕ) → T (is row op) → row ≡ rows op
+  known row op t = sym (back row) ∙ ap numbered (are-same (number row) (number (rows op)) t) ∙ back (rows op)
 
--- n opcodes from a on have the row that a rule gives them
-pub all-have :
-    (row : ℕ → Row) (a n : ℕ) → T (every (λ k. is (row (a + k)) (a + k)) n) →
-    (op : ℕ) → a ≤ op → op < a + n → row op ≡ rowOf op
-all-have row a n t op from below = known (row op) op (every-from (λ k. is (row k) k) a n t op from below)
+  -- n opcodes from a on have the row that a rule gives them
+  pub all-have :
+      (row : ℕ → Row) (a n : ℕ) → T (every (λ k. is (row (a + k)) (a + k)) n) →
+      (op : ℕ) → a ≤ op → op < a + n → row op ≡ rows op
+  all-have row a n t op from below = known (row op) op (every-from (λ k. is (row k) k) a n t op from below)
 
--- the same where no arm of a match has the opcode as a key; the last arm comes first in the list
-pub all-unkeyed :
-    (row : Row) (arms : List (List ℕ)) (a n : ℕ) → T (every (λ k. orKey arms (is row) (a + k)) n) →
-    (op : ℕ) → a ≤ op → op < a + n → Unkeyed arms op → row ≡ rowOf op
-all-unkeyed row arms a n t op from below rest = known row op (every-unkeyed (is row) arms a n t op from below rest)
+  -- the same where no arm of a match has the opcode as a key; the last arm comes first in the list
+  pub all-unkeyed :
+      (row : Row) (arms : List (List ℕ)) (a n : ℕ) → T (every (λ k. orKey arms (is row) (a + k)) n) →
+      (op : ℕ) → a ≤ op → op < a + n → Unkeyed arms op → row ≡ rows op
+  all-unkeyed row arms a n t op from below rest = known row op (every-unkeyed (is row) arms a n t op from below rest)

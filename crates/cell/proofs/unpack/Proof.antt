@@ -1,9 +1,9 @@
--- `block::unpack` meets its contract. A case on the cell.
+-- `cell::unpack` meets its contract. A case on the cell.
 -- Assumes nothing.
 use borrow.Author.Needs.{needs}
 use borrow.Author.Tests.{eq-eqb, ne-eqb}
-use Rattle.block.proofs.unpack.Statement.{statement}
-use Rattle.block.proofs.unpack.Tie as tie
+use Rattle.cell.proofs.unpack.Statement.{statement}
+use Rattle.cell.proofs.unpack.Tie as tie
 
 returns : tie.Need-returns
 returns c = rw (eq-eqb (c .before .args .cell) 0 (c .if1 .taken))

@@ -1,11 +1,11 @@
--- `block::pack` meets its contract. A case on the two tests.
+-- `cell::pack` meets its contract. A case on the two tests.
 -- Assumes nothing.
 use Prim.Native.Nat.{_+_, _-_, _*_, _^_}
 use native.Mathlib.Omega.{arith}
 use borrow.Author.Needs.{needs}
 use borrow.Author.Tests.{lt-leb, le-leb}
-use Rattle.block.proofs.pack.Statement.{statement}
-use Rattle.block.proofs.pack.Tie as tie
+use Rattle.cell.proofs.pack.Statement.{statement}
+use Rattle.cell.proofs.pack.Tie as tie
 
 returns : tie.Need-returns
 returns c = rw (lt-leb (1 + 256 * c .before .args .load + c .before .args .local) (2 ^ 64 - 1) (omega arith))

@@ -1,13 +1,13 @@
--- `block::row_of` meets its contract. Each arm and each gap between arms is one computed test.
+-- `row::row_of` meets its contract. Each arm and each gap between arms is one computed test.
 -- Assumes nothing.
 use Prim.Native.Nat.{ℕ}
 use native.Mathlib.Omega.{arith}
 use mathlib.Core.List.{List, [], _∷_}
 use borrow.Author.Needs.{needs}
 use Rattle.effects.specs.Rows.{unmodelled, opaque, calls, rowOf}
-use Rattle.block.proofs.OfOpcode.{all-have, all-unkeyed}
-use Rattle.block.proofs.row_of.Statement.{statement}
-use Rattle.block.proofs.row_of.Tie as tie
+use Rattle.row.proofs.OfOpcode.{all-have, all-unkeyed}
+use Rattle.row.proofs.row_of.Statement.{statement}
+use Rattle.row.proofs.row_of.Tie as tie
 
 -- the keys of the arms, the last first
 abbrev arms : List (List ℕ)
@@ -73,25 +73,25 @@ returns-13 c = rw (c .match .keys13)
 returns-14 : tie.Need-returns-14
 unfolding rowOf
 returns-14 c =
-    all-unkeyed (opaque 1 1) arms 187 4 tt (c .before .before .before .before .before .before .args .op)
+    all-unkeyed rowOf (opaque 1 1) arms 187 4 tt (c .before .before .before .before .before .before .args .op)
     (omega arith) (omega arith) (c .before .before .before .before .match .rest)
 
 returns-15 : tie.Need-returns-15
 unfolding rowOf
 returns-15 c =
-    all-unkeyed unmodelled arms 79 103 tt (c .before .before .before .args .op)
+    all-unkeyed rowOf unmodelled arms 79 103 tt (c .before .before .before .args .op)
     (omega arith) (omega arith) (c .before .match .rest)
 
 returns-16 : tie.Need-returns-16
 unfolding rowOf
 returns-16 c =
-    all-unkeyed unmodelled arms 184 3 tt (c .before .before .before .before .before .args .op)
+    all-unkeyed rowOf unmodelled arms 184 3 tt (c .before .before .before .before .before .args .op)
     (omega arith) (omega arith) (c .before .before .before .match .rest)
 
 returns-17 : tie.Need-returns-17
 unfolding rowOf
 returns-17 c =
-    all-unkeyed unmodelled arms 191 65 tt (c .before .before .before .before .before .before .args .op)
+    all-unkeyed rowOf unmodelled arms 191 65 tt (c .before .before .before .before .before .before .args .op)
     (omega arith) (omega arith) (c .before .before .before .before .match .rest)
 
 returns-18 : tie.Need-returns-18
@@ -100,7 +100,7 @@ returns-18 c = rw (c .match .keys9)
 
 returns-19 : tie.Need-returns-19
 unfolding rowOf
-returns-19 c = all-have (λ op. calls 1) 182 2 tt (c .before .before .before .before .args .op) (omega arith) (omega arith)
+returns-19 c = all-have rowOf (λ op. calls 1) 182 2 tt (c .before .before .before .before .args .op) (omega arith) (omega arith)
 
 pub row-of-spec : {M : Type 1} → statement M
 row-of-spec =

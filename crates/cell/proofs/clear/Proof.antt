@@ -1,4 +1,4 @@
--- `block::clear` meets its contract. The loop's invariant: the first cells are zero, the others as they were.
+-- `cell::clear` meets its contract. The loop's invariant: the first cells are zero, the others as they were.
 -- Assumes nothing.
 use Prim.Native.Nat.{ℕ, _-_, _≤_}
 use native.Mathlib.Omega.{arith}
@@ -8,8 +8,8 @@ use lib.ListN.{length, set, drop, replicate, length-set}
 use lib.Seq.{drop-length}
 use borrow.Author.Fill.{fill-more}
 use borrow.Author.Needs.{needs}
-use Rattle.block.proofs.clear.Statement.{statement}
-use Rattle.block.proofs.clear.Tie as tie
+use Rattle.cell.proofs.clear.Statement.{statement}
+use Rattle.cell.proofs.clear.Tie as tie
 
 abbrev Inv-loop : tie.InvT-loop
 Inv-loop stack₀ i₀ stack i =

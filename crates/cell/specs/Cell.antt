@@ -1,0 +1,21 @@
+-- A cell of the lent stack (document 01, "Numbers returned"): "A cell is 0 when opaque, else 1 + 256 * load index + local."
+-- Assumes nothing.
+use Prim.Native.Nat.{ℕ, _+_, _-_, _*_, _/_, _%_, _^_}
+use lib.Dec.{eqb, leb}
+use Rattle.basics.specs.Choice.{pick}
+use Rattle.cell.specs.declared.Cell.{Cell}
+use Rattle.cell.specs.declared.Cell.the-variants.{Held, TooLarge}
+use Rattle.cell.specs.declared.Slot.{Slot}
+use Rattle.cell.specs.declared.Slot.the-variants.{Other, Loaded}
+
+-- of a load, by its index and its local
+abbrev pub cellOf : ℕ → ℕ → ℕ
+cellOf load local = 1 + 256 * load + local
+
+-- a cell has 64 bits: a load whose cell would pass 2^64 - 1 has none
+abbrev pub packed : ℕ → ℕ → Cell
+packed load local = pick (leb (cellOf load local) (2 ^ 64 - 1)) (Held (cellOf load local)) TooLarge
+
+-- what a cell holds
+abbrev pub unpacked : ℕ → Slot
+unpacked cell = pick (eqb cell 0) Other (Loaded ((cell - 1) / 256) ((cell - 1) % 256))
