@@ -10,7 +10,7 @@ use lib.ListN.{length}
 use borrow.Author.Tests.{lt-ltb, le-ltb}
 use Rattle.basics.specs.Bytes.{byteAt}
 use Rattle.basics.specs.Choice.{pick}
-use Rattle.bytecode.specs.Length.{fixedLength}
+use Rattle.fixed.specs.Fixed.{fixedLength}
 use Rattle.effects.specs.Lookup.{Lookup}
 use Rattle.effects.specs.Rows.{rowOf}
 use Rattle.block.specs.Inner.{bare, laidIn, Laid, Stepped}

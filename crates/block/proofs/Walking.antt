@@ -12,7 +12,7 @@ use borrow.Author.Tests.{lt-ltb, le-ltb, eq-eqb, ne-eqb, leb-true}
 use Rattle.basics.specs.Bytes.{byteAt, AreBytes}
 use Rattle.basics.specs.Choice.{pick}
 use Rattle.jvms.specs.Format.{formatOf}
-use Rattle.bytecode.specs.Length.{fixedLength}
+use Rattle.fixed.specs.Fixed.{fixedLength}
 use Rattle.effects.specs.Lookup.{Lookup}
 use Rattle.effects.specs.Rows.{Row, unmodelled, opaque, aload, aloadOf, carries, keeps, gets, calls, rowOf}
 use Rattle.block.specs.Inner.{stepOf, Stepped}

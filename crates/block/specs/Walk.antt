@@ -8,7 +8,7 @@ use lib.Dec.{eqb, leb, ltb}
 use lib.ListN.{length, take, drop, replicate}
 use Rattle.basics.specs.Bytes.{byteAt, u16At}
 use Rattle.basics.specs.Choice.{pick}
-use Rattle.bytecode.specs.Length.{fixedLength}
+use Rattle.fixed.specs.Fixed.{fixedLength}
 use Rattle.cell.specs.Cell.{cellOf}
 use Rattle.descriptor.specs.Readers.{parameters, returnSlots, fieldSlots}
 use Rattle.descriptor.specs.declared.Params.{Params}

@@ -11,7 +11,7 @@ ghost use lib.Dec.{leb};
 ghost use lib.ListN.{length, take};
 ghost use Rattle.basics.specs.Bytes.{byteAt};
 ghost use Rattle.basics.specs.Choice.{pick};
-ghost use Rattle.bytecode.specs.Length.{FixedLengths};
+ghost use Rattle.fixed.specs.Fixed.{FixedLengths};
 ghost use Rattle.index.specs.Index.{Indexed};
 ghost use Rattle.effects.specs.Lookup.{lookupIn};
 ghost use Rattle.effects.specs.Rows.{rowOf, aload as aloadRow, gets as getsRow, calls as callsRow};
@@ -309,7 +309,7 @@ fn step_at(
         return Step::Stops;
     }
     let effect = effect_at(code, members, count, table, pc);
-    let size = bytecode::fixed_by(lengths, code[pc]) as usize;
+    let size = fixed::fixed_by(lengths, code[pc]) as usize;
     match apply(stack, height, pc, effect) {
         Height::Refused => Step::Stops,
         Height::Over => Step::Lacks,
@@ -334,7 +334,7 @@ fn walk_block(
         (blockWalk (now (code .entry)) (now (members .entry)) count leader fault (length (now (stack .entry)))) ⌝ }
 {
     clear(stack);
-    let lengths = bytecode::fixed_lengths();
+    let lengths = fixed::fixed_lengths();
     let mut pc = leader;
     let mut height: usize = 0;
     let mut completed: usize = 0;

@@ -11,7 +11,8 @@ use Rattle.basics.specs.Ascii.{ascii}
 use Rattle.items.specs.Text.{afterText, classOf, nameOf, descriptorOf}
 use Rattle.tables.specs.Member.{memberFound}
 use Rattle.casefile.specs.Whole.{longest}
-use Rattle.names.specs.Names.{className, parameterNames}
+use Rattle.classname.specs.ClassName.{className}
+use Rattle.names.specs.Names.{parameterNames}
 use Rattle.locals.specs.Name.{localName}
 use Rattle.cell.specs.declared.Slot.{Slot}
 use Rattle.cell.specs.declared.Slot.the-variants.{Other, Loaded}

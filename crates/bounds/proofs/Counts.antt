@@ -14,7 +14,7 @@ use Rattle.basics.proofs.Choice.{chosen}
 use Rattle.bytecode.specs.Length.{lengthOf}
 use Rattle.bytecode.specs.declared.Measure.{Measure}
 use Rattle.bytecode.specs.declared.Measure.the-variants.{Length, NoLength}
-use Rattle.leader.specs.Greatest.{greatest as greatestOf}
+use Rattle.greatest.specs.Greatest.{greatest as greatestOf}
 use Rattle.leader.specs.Scan.{Instructions, ended as scanEnded, unmeasured, instruction, scanStep, scanFrom, instructions, scanCount, leadersOf, answered, blockLeader}
 use Rattle.leader.specs.declared.Scan.{Scan}
 use Rattle.leader.specs.declared.Scan.the-variants.{Leader, Unmeasured}

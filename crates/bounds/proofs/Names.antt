@@ -10,16 +10,18 @@ use lib.ListN.{length, take, drop, length-append}
 use Rattle.basics.specs.Ascii.{ascii}
 use Rattle.basics.specs.Choice.{pick, sameList}
 use Rattle.basics.proofs.Choice.{chosen}
-use Rattle.descriptor.specs.Search.{firstFrom}
-use Rattle.descriptor.specs.Types.{fieldTypeAt, takenInside, typesStep, listOver, typesFrom, typesAt, typesOf}
-use Rattle.descriptor.specs.declared.FieldType.{FieldType}
-use Rattle.descriptor.specs.declared.Found.{Found}
-use Rattle.descriptor.specs.declared.Found.the-variants.{At, Absent}
-use Rattle.descriptor.specs.declared.Taken.{Taken}
-use Rattle.descriptor.specs.declared.Taken.the-variants.{Field, Unreadable}
-use Rattle.descriptor.proofs.Bounds.{taken-inside}
-use Rattle.names.specs.Names.{dotted, startsWith, className, baseNames, nameAt, baseName, elementName, bracketPairs, typeName, typeNames, commaed, joined, parameterNames}
-use Rattle.names.proofs.Bytewise.{dotted-length, pairs-length}
+use Rattle.fieldtype.specs.Search.{firstFrom}
+use Rattle.fieldtype.specs.Types.{fieldTypeAt, takenInside, typesStep, listOver, typesFrom, typesAt, typesOf}
+use Rattle.fieldtype.specs.declared.FieldType.{FieldType}
+use Rattle.fieldtype.specs.declared.Found.{Found}
+use Rattle.fieldtype.specs.declared.Found.the-variants.{At, Absent}
+use Rattle.fieldtype.specs.declared.Taken.{Taken}
+use Rattle.fieldtype.specs.declared.Taken.the-variants.{Field, Unreadable}
+use Rattle.fieldtype.proofs.Bounds.{taken-inside}
+use Rattle.classname.specs.ClassName.{dotted, startsWith, className}
+use Rattle.names.specs.Names.{baseNames, nameAt, baseName, elementName, bracketPairs, typeName, typeNames, commaed, joined, parameterNames}
+use Rattle.classname.proofs.Bytewise.{dotted-length}
+use Rattle.names.proofs.Bytewise.{pairs-length}
 use Rattle.bounds.proofs.Texts.{Within, none-within, entry-within, part-within}
 
 -- ---- one name

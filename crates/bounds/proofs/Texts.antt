@@ -17,11 +17,12 @@ use Rattle.tables.specs.LocalRecord.{recordsIn}
 use Rattle.tables.specs.Member.{memberAt, thenMember, textsOf, memberFound}
 use Rattle.tables.specs.declared.Member.{Member}
 use Rattle.tables.specs.declared.Member.the-variants.{Read, Wrong}
-use Rattle.descriptor.specs.declared.Found.{Found}
-use Rattle.descriptor.specs.declared.Found.the-variants.{At, Absent}
-use Rattle.locals.specs.Name.{firstMatch, signatureParameter, numberedName, parameterName, unnamed, nameBy, localName}
-use Rattle.locals.specs.declared.NamePlace.{NamePlace}
-use Rattle.locals.specs.declared.NamePlace.the-variants.{Name, Unnamed}
+use Rattle.fieldtype.specs.declared.Found.{Found}
+use Rattle.fieldtype.specs.declared.Found.the-variants.{At, Absent}
+use Rattle.search.specs.Search.{firstMatch}
+use Rattle.locals.specs.Name.{signatureParameter, numberedName, parameterName, unnamed, nameBy, localName}
+use Rattle.search.specs.declared.NamePlace.{NamePlace}
+use Rattle.search.specs.declared.NamePlace.the-variants.{Name, Unnamed}
 use Rattle.text.specs.Decimal.{digits, decimal}
 
 -- a list is at most so long

@@ -7,13 +7,13 @@ use mathlib.Core.Bool.{Bool, true, false}
 use mathlib.Core.List.{List}
 use lib.Dec.{eqb, leb}
 use lib.ListN.{length}
-use lib.Seq.{ext-getD}
 use borrow.Author.Tests.{leb-true, ne-eqb}
 use Rattle.basics.specs.Bytes.{byteAt}
 use Rattle.basics.specs.Choice.{pick}
 use Rattle.jvms.specs.Format.{Format, fixed, tableswitch, lookupswitch, wide, reserved, widths, formatOf}
 use Rattle.bytecode.specs.Length.{tableBytes, lookupBytes, wideBytes, bytesBy, bytesOf, within, lengthOf, numbered}
-use Rattle.bytecode.specs.Length.{fixedBy, fixedLength, FixedLengths, lengthBy}
+use Rattle.fixed.specs.Fixed.{fixedBy, fixedLength, FixedLengths}
+use Rattle.bytecode.specs.Length.{lengthBy}
 use Rattle.bytecode.specs.Rule.{LengthRule}
 use Rattle.bytecode.specs.declared.Measure.{Measure}
 use Rattle.bytecode.specs.declared.Measure.the-variants.{Length, NoLength}
@@ -67,12 +67,6 @@ by-fixed-lengths lengths code pc table below =
     by-format lookupswitch = refl
     by-format wide = refl
     by-format reserved = refl
-
--- there is one such table
-pub fixed-lengths-once : (one another : List ℕ) → FixedLengths one → FixedLengths another → one ≡ another
-fixed-lengths-once one another is was =
-    ext-getD 0 one another (is .sized ∙ sym (was .sized))
-    (λ op below. is .entries op (omega (arith, is .sized)) ∙ sym (was .entries op (omega (arith, is .sized))))
 
 -- by any rule a length is at least 1
 pub rule-positive : (rule : LengthRule) (code : List ℕ) (pc n : ℕ) → rule .measure code pc ≡ Length n → 1 ≤ n

@@ -12,7 +12,8 @@ use Rattle.basics.specs.Bytes.{byteAt}
 use Rattle.basics.proofs.Bytes.{byte-past}
 use Rattle.basics.proofs.Every.{every-at}
 use Rattle.jvms.specs.Format.{Format, fixed, tableswitch, lookupswitch, wide, reserved, formatOf}
-use Rattle.bytecode.specs.Length.{bytesBy, fixedBy, fixedLength, bytesOf, within, lengthOf, lengthBy}
+use Rattle.bytecode.specs.Length.{bytesBy, bytesOf, within, lengthOf, lengthBy}
+use Rattle.fixed.specs.Fixed.{fixedBy, fixedLength}
 use Rattle.bytecode.specs.declared.Measure.the-variants.{Length, NoLength}
 
 -- an opcode whose format leaves its length open is one of three

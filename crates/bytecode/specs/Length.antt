@@ -53,22 +53,6 @@ bytesBy reserved code pc = 1
 unfoldable pub bytesOf : List ℕ → ℕ → ℕ
 bytesOf code pc = bytesBy (formatOf (byteAt code pc)) code pc
 
--- the bytes that the opcode alone fixes: "0 for the three variable ones"
-abbrev pub fixedBy : Format → ℕ
-fixedBy (fixed os) = 1 + widths os
-fixedBy tableswitch = 0
-fixedBy lookupswitch = 0
-fixedBy wide = 0
-fixedBy reserved = 1
-
-unfoldable pub fixedLength : ℕ → ℕ
-fixedLength op = fixedBy (formatOf op)
-
--- a table of 256 entries that holds the fixed length of each opcode
-pub record FixedLengths (lengths : List ℕ) : Type 0 where
-  pub sized : length lengths ≡ 256
-  pub entries : (op : ℕ) → op < 256 → byteAt lengths op ≡ fixedLength op
-
 -- "An instruction that would pass the end has no length."
 unfoldable pub within : List ℕ → ℕ → ℕ → Measure
 within code pc n = pick (leb (pc + n) (length code)) (Length n) NoLength

@@ -1,5 +1,2 @@
-pub mod Bounds
 pub mod Listing
-pub mod OneType
-pub mod Steps
 pub mod Turns

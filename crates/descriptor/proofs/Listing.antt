@@ -11,11 +11,11 @@ use lib.ListN.{length}
 use borrow.Author.Tests.{le-leb, lt-leb, eq-eqb, ne-eqb}
 use Rattle.basics.specs.Bytes.{byteAt}
 use Rattle.basics.specs.Choice.{pick, both}
-use Rattle.descriptor.specs.Types.{fieldTypeAt, takenInside, isWide, typeSlots, Types, over, unread, one, typesStep, listOver, typesFrom, typesAt}
-use Rattle.descriptor.specs.declared.FieldType.{FieldType}
-use Rattle.descriptor.specs.declared.Taken.{Taken}
-use Rattle.descriptor.specs.declared.Taken.the-variants.{Field, Unreadable}
-use Rattle.descriptor.proofs.Bounds.{taken-inside}
+use Rattle.fieldtype.specs.Types.{fieldTypeAt, takenInside, isWide, typeSlots, Types, over, unread, one, typesStep, listOver, typesFrom, typesAt}
+use Rattle.fieldtype.specs.declared.FieldType.{FieldType}
+use Rattle.fieldtype.specs.declared.Taken.{Taken}
+use Rattle.fieldtype.specs.declared.Taken.the-variants.{Field, Unreadable}
+use Rattle.fieldtype.proofs.Bounds.{taken-inside}
 
 -- more turns than there are bytes change nothing
 enough :

@@ -6,11 +6,11 @@ use mathlib.Core.Path.{_≡_, refl, ap, ap₂}
 use mathlib.Core.Bool.{Bool}
 use lib.Dec.{eqb}
 use borrow.Author.Tests.{eq-eqb, ne-eqb}
-use Rattle.descriptor.specs.Types.{typeSlots, Types, over, unread, one}
+use Rattle.fieldtype.specs.Types.{typeSlots, Types, over, unread, one}
 use Rattle.descriptor.specs.Readers.{slotsOf, judged, startingAt}
-use Rattle.descriptor.specs.declared.FieldType.{FieldType}
-use Rattle.descriptor.specs.declared.Found.{Found}
-use Rattle.descriptor.specs.declared.Found.the-variants.{At, Absent}
+use Rattle.fieldtype.specs.declared.FieldType.{FieldType}
+use Rattle.fieldtype.specs.declared.Found.{Found}
+use Rattle.fieldtype.specs.declared.Found.the-variants.{At, Absent}
 use Rattle.descriptor.specs.declared.Params.{Params}
 use Rattle.descriptor.specs.declared.Params.the-variants.{Read, Unreadable}
 

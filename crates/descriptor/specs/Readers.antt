@@ -7,10 +7,10 @@ use lib.Dec.{eqb, leb}
 use lib.ListN.{length}
 use Rattle.basics.specs.Bytes.{byteAt}
 use Rattle.basics.specs.Choice.{pick}
-use Rattle.descriptor.specs.Search.{firstFrom}
-use Rattle.descriptor.specs.Types.{isWide, typeSlots, Types, over, unread, one, typesOf}
-use Rattle.descriptor.specs.declared.Found.{Found}
-use Rattle.descriptor.specs.declared.Found.the-variants.{At, Absent}
+use Rattle.fieldtype.specs.Search.{firstFrom}
+use Rattle.fieldtype.specs.Types.{isWide, typeSlots, Types, over, unread, one, typesOf}
+use Rattle.fieldtype.specs.declared.Found.{Found}
+use Rattle.fieldtype.specs.declared.Found.the-variants.{At, Absent}
 use Rattle.descriptor.specs.declared.Params.{Params}
 use Rattle.descriptor.specs.declared.Params.the-variants.{Read, Unreadable as UnreadableParams}
 use Rattle.descriptor.specs.declared.Slots.{Slots}

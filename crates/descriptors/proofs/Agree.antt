@@ -13,15 +13,15 @@ use borrow.Author.Tests.{ne-eqb, lt-leb}
 use Rattle.basics.specs.Ascii.{ascii}
 use Rattle.basics.specs.Bytes.{byteAt}
 use Rattle.basics.specs.Choice.{pick, both}
-use Rattle.descriptor.specs.Search.{firstIn, firstFrom}
-use Rattle.descriptor.specs.Types.{brackets, classType, baseType, typeBehind, fieldTypeAt, isWide, typeSlots, Types, over, unread, one, typesAt, typesOf}
+use Rattle.fieldtype.specs.Search.{firstIn, firstFrom}
+use Rattle.fieldtype.specs.Types.{brackets, classType, baseType, typeBehind, fieldTypeAt, isWide, typeSlots, Types, over, unread, one, typesAt, typesOf}
 use Rattle.descriptor.specs.Readers.{slotsOf, judged, parameters, closing, slotsBehind, returnSlots, fieldSlots}
-use Rattle.descriptor.specs.declared.FieldType.{FieldType}
-use Rattle.descriptor.specs.declared.Found.the-variants.{At, Absent}
+use Rattle.fieldtype.specs.declared.FieldType.{FieldType}
+use Rattle.fieldtype.specs.declared.Found.the-variants.{At, Absent}
 use Rattle.descriptor.specs.declared.Params.the-variants.{Read}
 use Rattle.descriptor.specs.declared.Slots.{Slots}
 use Rattle.descriptor.specs.declared.Slots.the-variants.{Slots as SlotsOf, Unreadable as UnreadableSlots}
-use Rattle.descriptor.specs.declared.Taken.the-variants.{Field, Unreadable}
+use Rattle.fieldtype.specs.declared.Taken.the-variants.{Field, Unreadable}
 use Rattle.jvms.specs.Descriptor.{BaseType, byte, char, double, float, int, long, short, boolean, letter}
 use Rattle.jvms.specs.Descriptor.{base, class, array, render, renderAll, renderReturn, renderMethod, dimensions, NoSemicolon, ClassName, Named, AllWellFormed}
 use Rattle.jvms.specs.Descriptor.{ReturnType, void, typed, MethodType, WellFormed, WellFormedMethod, slots, slotsAll}

@@ -8,8 +8,8 @@ use lib.Dec.{eqb}
 use lib.ListN.{length, take, drop}
 use Rattle.basics.specs.Choice.{pick}
 use Rattle.descriptor.specs.Readers.{parameters, returnSlots, fieldSlots}
-use Rattle.descriptor.specs.Types.{Types, over, unread, one, typesOf}
-use Rattle.descriptor.specs.declared.FieldType.{FieldType}
+use Rattle.fieldtype.specs.Types.{Types, over, unread, one, typesOf}
+use Rattle.fieldtype.specs.declared.FieldType.{FieldType}
 use Rattle.descriptor.specs.declared.Params.the-variants.{Read}
 use Rattle.descriptor.specs.declared.Slots.the-variants.{Slots as SlotsOf}
 use Rattle.jvms.specs.Descriptor.{letter, base, class, array, MethodType, render, renderAll, renderMethod, dimensions}

@@ -14,7 +14,7 @@ use Rattle.jvms.specs.Extent.{takes, extentBy, extentAt}
 use Rattle.jvms.specs.Format.{Format, tableswitch, lookupswitch, wide, reserved, formatOf}
 use Rattle.jvms.specs.Format.{fixed as fixedFormat}
 use Rattle.jvms.specs.Stack.{objectref, reference, Form, _⇒_, Local, indexed, numbered, does, entryOf}
-use Rattle.bytecode.specs.Length.{fixedBy, fixedLength}
+use Rattle.fixed.specs.Fixed.{fixedBy, fixedLength}
 use Rattle.effects.specs.Agreement.{isModelled, hasEffect, within, FormAgrees, formsOf, hasForm, localOf, Details, EffectAgrees}
 use Rattle.effects.specs.Agreement.{Agreeing, RowsAgree, documented, ModelsDocumented}
 use Rattle.effects.specs.Rows.{Row, unmodelled, opaque, aload, aloadOf, carries, keeps, gets, calls, rowOf}

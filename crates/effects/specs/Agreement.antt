@@ -26,7 +26,7 @@ use Rattle.jvms.specs.Extent.{takes, extentAt}
 use Rattle.jvms.specs.Machine.{isReference, run, results}
 use Rattle.jvms.specs.Stack.{objectref, Operand, reference, Form, _⇒_, Local, indexed, numbered, Entry, unlisted, does, eitherOf, loads, stores, increments, throws}
 use Rattle.jvms.specs.Stack.{Cited, slotsOf, slotsIn, nameOf, entryOf, operandsOf}
-use Rattle.bytecode.specs.Length.{fixedLength}
+use Rattle.fixed.specs.Fixed.{fixedLength}
 use Rattle.effects.specs.Depth.{Rule, none, fixed, reads, writes, invokes, ruleOf}
 use Rattle.effects.specs.Rows.{Row, unmodelled, opaque, aload, aloadOf, carries, keeps, gets, calls, rowOf}
 

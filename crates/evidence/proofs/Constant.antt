@@ -10,12 +10,13 @@ use Rattle.basics.specs.Ascii.{ascii}
 use Rattle.basics.proofs.Bytes.{all-below}
 use Rattle.basics.proofs.Every.{every}
 use Rattle.jvms.specs.Format.{formatOf}
-use Rattle.bytecode.specs.Length.{bytesOf, fixedLength, within, lengthOf}
-use Rattle.leader.specs.Greatest.{upTo, greatest}
+use Rattle.bytecode.specs.Length.{bytesOf, within, lengthOf}
+use Rattle.fixed.specs.Fixed.{fixedLength}
+use Rattle.greatest.specs.Greatest.{upTo, greatest}
 use Rattle.leader.specs.Scan.{scanFrom, instructions, scanCount, leadersOf, answered, blockLeader}
 use Rattle.branch.specs.Branch.{branchOf}
 use Rattle.leader.specs.Targets.{leadersAt}
-use Rattle.descriptor.specs.Search.{firstIn, firstFrom}
+use Rattle.fieldtype.specs.Search.{firstIn, firstFrom}
 use Rattle.text.specs.Decimal.{digits, decimal}
 use Rattle.text.specs.Writing.{over}
 use Rattle.items.specs.Number.{numberFrom, numberAt}
@@ -30,7 +31,8 @@ use Rattle.effects.specs.Rows.{rowOf}
 use Rattle.block.specs.Room.{completedFrom, completed, blockWalk}
 use Rattle.block.specs.Walk.{step, walkFrom, walk}
 use Rattle.fault.specs.Decoding.{actionOf, decoded}
-use Rattle.locals.specs.Name.{firstMatch, signatureParameter, numberedName, localName}
+use Rattle.search.specs.Search.{firstMatch}
+use Rattle.locals.specs.Name.{signatureParameter, numberedName, localName}
 use Rattle.action.specs.Action.{actionText}
 use Rattle.message.specs.Message.{causeText, messageText}
 use Rattle.answer.specs.Answer.{numbered}

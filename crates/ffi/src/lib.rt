@@ -1,141 +1,39 @@
 // The C interface of the library: numbers and slices in, structs of numbers out. Every function takes any input.
-use answer::Report;
-use block::Walk;
 use bytecode::Measure;
 use casefile::Case;
 use cell::clear;
 use descriptor::Params;
 use descriptor::Slots;
 use items::part_at;
-use jdescriptor::Answer;
 use leader::Scan;
+use structs::KorsepalLeader;
+use structs::KorsepalLength;
+use structs::KorsepalName;
+use structs::KorsepalParameters;
+use structs::KorsepalReport;
+use structs::KorsepalSlots;
+use structs::KorsepalTypes;
+use structs::KorsepalWalk;
+use structs::low_bits;
+use structs::report_numbers;
+use structs::strict_numbers;
+use structs::walk_numbers;
 ghost use mathlib.Core.Path.{_≡_};
 ghost use mathlib.Core.List.{[]};
-ghost use Prim.Native.Nat.{_-_, _^_, min};
 ghost use lib.ListN.{length, replicate};
 ghost use Rattle.bytecode.specs.Length.{lengthOf};
 ghost use Rattle.casefile.specs.Whole.{caseOf};
 ghost use Rattle.jdescriptor.specs.Answer.{answer as answerTo, written};
-ghost use Rattle.jdescriptor.specs.Reading.{typeReading, methodReading};
+ghost use Rattle.judging.specs.Reading.{typeReading, methodReading};
 ghost use Rattle.locals.specs.Name.{localName};
 ghost use Rattle.names.specs.Names.{parameterNames};
 ghost use Rattle.descriptor.specs.Readers.{parameters, returnSlots, fieldSlots};
 ghost use Rattle.descriptor.specs.declared.Slots.the-variants.{Slots as SlotsOf};
 ghost use Rattle.leader.specs.Scan.{blockLeader};
 ghost use Rattle.answer.specs.Answer.{answerBy, outputBy};
-ghost use Rattle.locals.specs.Name.{isInstance};
 ghost use Rattle.report.specs.Report.{reportOf, reportedIn};
-ghost use Rattle.ffi.specs.Numbers.{low, reportNumbers, lengthNumbers, leaderNumbers, slotNumbers};
-ghost use Rattle.ffi.specs.Numbers.{walkNumbers, caseWalk, caseCells, spoken, nameNumbers, caseName, caseNamed};
-ghost use Rattle.ffi.specs.Numbers.{parameterNumbers, parametersIn, listNumbers, strictNumbers};
-
-// The report of a case.
-#[repr(C)]
-pub struct KorsepalReport {
-    pub answer: u32,
-    pub kind: u32,
-    pub scan: u32,
-    pub block: u32,
-    pub value: u64,
-}
-
-// The length of an instruction.
-#[repr(C)]
-pub struct KorsepalLength {
-    pub status: u32,
-    pub length: u64,
-}
-
-// The leader of a fault's block.
-#[repr(C)]
-pub struct KorsepalLeader {
-    pub found: u32,
-    pub scan: u64,
-    pub leader: u64,
-}
-
-// The slots of a return or a field.
-#[repr(C)]
-pub struct KorsepalSlots {
-    pub status: u32,
-    pub slots: u32,
-}
-
-// The walk of a block, alone.
-#[repr(C)]
-pub struct KorsepalWalk {
-    pub outcome: u32,
-    pub height: u64,
-    pub count: u64,
-    pub index: u64,
-}
-
-// The name of a local.
-#[repr(C)]
-pub struct KorsepalName {
-    pub answer: u32,
-    pub value: u64,
-}
-
-// The parameters of a method.
-#[repr(C)]
-pub struct KorsepalParameters {
-    pub status: u32,
-    pub slots: u64,
-    pub length: u64,
-}
-
-// The types of a strict descriptor.
-#[repr(C)]
-pub struct KorsepalTypes {
-    pub refusal: u32,
-    pub count: u64,
-}
-
-fn low_bits(n: usize) -> u32
-    ensures { λ r. ⌜ r ≡ low n ⌝ }
-{
-    if n < 4294967296 {
-        return n as u32;
-    }
-    4294967295
-}
-
-fn carried(answer: u32, value: usize) -> KorsepalReport
-    ensures { λ r. ⌜ r ≡ record { answer = answer; kind = 0; scan = 0; block = 0; value = value } ⌝ }
-{
-    KorsepalReport {
-        answer,
-        kind: 0,
-        scan: 0,
-        block: 0,
-        value: value as u64,
-    }
-}
-
-fn report_numbers(answer: Report) -> KorsepalReport
-    ensures { λ r. ⌜ r ≡ reportNumbers answer ⌝ }
-{
-    match answer {
-        Report::Message {
-            length,
-            kind,
-            scan,
-            block,
-        } => KorsepalReport {
-            answer: 0,
-            kind: low_bits(kind),
-            scan: low_bits(scan),
-            block: low_bits(block),
-            value: length as u64,
-        },
-        Report::NoMessage => carried(1, 0),
-        Report::Broken { at } => carried(2, at),
-        Report::NoRoom { at } => carried(3, at),
-        Report::NoOutput { needed } => carried(4, needed),
-        Report::TooLong => carried(5, 0),
-    }
-}
+ghost use Rattle.structs.specs.Structs.{reportNumbers, lengthNumbers, leaderNumbers, slotNumbers, nameNumbers, strictNumbers};
+ghost use Rattle.ffi.specs.Numbers.{caseWalk, caseCells, spoken, caseName, caseNamed, parameterNumbers, parametersIn};
 
 // Reports on a case, over a lent stack and a lent output.
 #[no_mangle]
@@ -216,31 +114,6 @@ pub extern "C" fn korsepal_field_slots(descriptor: &[u8]) -> KorsepalSlots
     }
 }
 
-fn walk_numbers(walk: Walk) -> KorsepalWalk
-    ensures { λ r. ⌜ r ≡ walkNumbers walk ⌝ }
-{
-    match walk {
-        Walk::Done { height, count } => KorsepalWalk {
-            outcome: 0,
-            height: height as u64,
-            count: count as u64,
-            index: 0,
-        },
-        Walk::Failed { count } => KorsepalWalk {
-            outcome: 1,
-            height: 0,
-            count: count as u64,
-            index: 0,
-        },
-        Walk::NoRoom { at } => KorsepalWalk {
-            outcome: 3,
-            height: 0,
-            count: 0,
-            index: at as u64,
-        },
-    }
-}
-
 // Walks from a leader to a fault over a lent stack, in the code of a case and with its members.
 #[no_mangle]
 pub extern "C" fn korsepal_walk(
@@ -305,21 +178,6 @@ pub extern "C" fn korsepal_parse_method(descriptor: &[u8], numbers: &mut [u64]) 
 {
     let answer = jdescriptor::parse_method(descriptor, numbers);
     strict_numbers(answer)
-}
-
-fn strict_numbers(answer: Answer) -> KorsepalTypes
-    ensures { λ r. ⌜ r ≡ strictNumbers answer ⌝ }
-{
-    match answer {
-        Answer::Types(count) => KorsepalTypes {
-            refusal: 0,
-            count: count as u64,
-        },
-        Answer::Refused(refusal) => KorsepalTypes {
-            refusal: low_bits(jtype::number_of(refusal) as usize),
-            count: 0,
-        },
-    }
 }
 
 // Writes the parameters of a method as the messages print them.

@@ -13,11 +13,11 @@ use Rattle.basics.proofs.Parts.{overlaid-more}
 use Rattle.jtype.specs.OneType.{typeAt}
 use Rattle.jtype.specs.declared.Next.{Next}
 use Rattle.jtype.specs.declared.Next.the-variants as next
-use Rattle.jtype.specs.declared.Refusal.{Refusal}
+use Rattle.refusal.specs.declared.Refusal.{Refusal}
 use Rattle.jtype.specs.declared.TypeRecord.{TypeRecord}
-use Rattle.jdescriptor.specs.Reading.{Reading, types, refused, after, returnAt, parameter, parametersAt, methodReading}
+use Rattle.judging.specs.Reading.{Reading, types, refused, after, returnAt, parameter, parametersAt, methodReading}
 use Rattle.jdescriptor.specs.Answer.{four, numbersOf, IsTypes, recordsOf}
-use Rattle.jdescriptor.proofs.Judging.{Enough, turn, no-text, not-opened, opened}
+use Rattle.judging.proofs.Judging.{Enough, turn, no-text, not-opened, opened}
 
 pub set-four :
     (a b c e : ℕ) (l : List ℕ) (k : ℕ) → k + 4 ≤ length l →

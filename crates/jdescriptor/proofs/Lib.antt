@@ -1,3 +1,2 @@
+pub mod Answering
 pub mod Filling
-pub mod Judging
-pub mod Numbers

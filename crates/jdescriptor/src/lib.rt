@@ -1,21 +1,16 @@
 // The strict descriptor readers, of a type and of a method (document 01, "Descriptors", strict). A text is judged first and
 // its numbers are written after, so that a refusal leaves the lent buffer alone.
 use jtype::Next;
-use jtype::Refusal;
 use jtype::TypeRecord;
+use judging::Answer;
+use judging::judge_method;
+use refusal::Refusal;
 ghost use mathlib.Core.Path.{_≡_};
 ghost use Prim.Native.Nat.{_+_, _*_, _≤_, _<_};
 ghost use lib.ListN.{length};
 ghost use Rattle.basics.specs.Parts.{overlaid};
-ghost use Rattle.jdescriptor.specs.Reading.{typeReading, returnAt, methodReading};
-ghost use Rattle.jdescriptor.specs.Answer.{four, numbersOf, answer, written, judged, raised, IsTypes, recordsOf};
-
-// What a strict reader answers.
-pub enum Answer {
-    // How many types were read and written.
-    Types(usize),
-    Refused(Refusal),
-}
+ghost use Rattle.judging.specs.Reading.{typeReading, returnAt, methodReading};
+ghost use Rattle.jdescriptor.specs.Answer.{four, numbersOf, answer, written, IsTypes, recordsOf};
 
 // The four numbers of a type, from place k of the buffer on.
 fn put_record(numbers: &mut [u64], k: usize, t: TypeRecord)
@@ -46,54 +41,6 @@ pub fn parse_type(text: &[u8], numbers: &mut [u64]) -> Answer
         }
         Next::Close => Answer::Refused(Refusal::LoneClose),
         Next::Refused(r) => Answer::Refused(r),
-    }
-}
-
-// The return at a place, behind count parameters.
-fn judge_return(text: &[u8], at: usize, count: usize) -> Answer
-    requires { ⌜ count < length (now text) ⌝ }
-    ensures { λ r. ⌜ r ≡ raised count (judged (returnAt (now (text .entry)) at)) ⌝ }
-{
-    match jtype::get_next(text, at) {
-        Next::Is(t, end) => {
-            if end < text.len() {
-                return Answer::Refused(Refusal::TrailingAfterMethod);
-            }
-            Answer::Types(count + 1)
-        }
-        Next::Close => Answer::Refused(Refusal::MissingReturn),
-        Next::Refused(r) => Answer::Refused(r),
-    }
-}
-
-// How many types a method descriptor has, or the first refusal.
-fn judge_method(text: &[u8]) -> Answer
-    ensures { λ r. ⌜ r ≡ judged (methodReading (now (text .entry))) ⌝ }
-{
-    if text.len() == 0 {
-        return Answer::Refused(Refusal::MissingOpening);
-    }
-    if text[0] != b'(' {
-        return Answer::Refused(Refusal::MissingOpening);
-    }
-    let mut at = 1;
-    let mut count = 0;
-    loop {
-        match jtype::get_next(text, at) {
-            Next::Is(t, end) => {
-                if t.letter == TypeRecord::VOID {
-                    return Answer::Refused(Refusal::VoidParameter);
-                }
-                count += 1;
-                at = end;
-            }
-            Next::Close => {
-                return judge_return(text, at + 1, count);
-            }
-            Next::Refused(r) => {
-                return Answer::Refused(r);
-            }
-        }
     }
 }
 

@@ -14,8 +14,8 @@ use Rattle.jtype.specs.OneType.{brackets, semicolonIn, semicolonFrom, is
 use Rattle.jtype.specs.OneType.{typeAt}
 use Rattle.jtype.specs.declared.Found.the-variants.{At, Absent}
 use Rattle.jtype.specs.declared.Next.the-variants.{Close, Refused}
-use Rattle.jtype.specs.declared.Refusal.the-variants.{UnexpectedEnd, TooManyDimensions, CloseAfterBracket, ArrayOfVoid}
-use Rattle.jtype.specs.declared.Refusal.the-variants.{Unrecognised}
+use Rattle.refusal.specs.declared.Refusal.the-variants.{UnexpectedEnd, TooManyDimensions, CloseAfterBracket, ArrayOfVoid}
+use Rattle.refusal.specs.declared.Refusal.the-variants.{Unrecognised}
 
 -- the place after the brackets
 pub brackets-at-end : (text : List ℕ) (at : ℕ) → length text ≤ at → at + brackets (drop at text) ≡ at

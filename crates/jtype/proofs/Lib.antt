@@ -1,4 +1,3 @@
 pub mod Ends
 pub mod Laws
 pub mod Letters
-pub mod Numbers

@@ -12,8 +12,8 @@ use Rattle.jtype.specs.declared.Found.{Found}
 use Rattle.jtype.specs.declared.Found.the-variants.{At, Absent}
 use Rattle.jtype.specs.declared.Next.{Next}
 use Rattle.jtype.specs.declared.Next.the-variants.{Is, Close, Refused}
-use Rattle.jtype.specs.declared.Refusal.the-variants.{UnexpectedEnd, TooManyDimensions, EmptyClassName}
-use Rattle.jtype.specs.declared.Refusal.the-variants.{MissingSemicolon, CloseAfterBracket, ArrayOfVoid, Unrecognised}
+use Rattle.refusal.specs.declared.Refusal.the-variants.{UnexpectedEnd, TooManyDimensions, EmptyClassName}
+use Rattle.refusal.specs.declared.Refusal.the-variants.{MissingSemicolon, CloseAfterBracket, ArrayOfVoid, Unrecognised}
 use Rattle.jtype.specs.declared.TypeRecord.{TypeRecord}
 
 -- how many `[` a text begins with

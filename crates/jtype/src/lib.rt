@@ -1,29 +1,10 @@
 // One type of a strict descriptor, at a place of a text (document 01, "Descriptors", strict).
 // Every function takes any text and any place.
+use refusal::Refusal;
 ghost use mathlib.Core.Path.{_≡_};
 ghost use Prim.Native.Nat.{_+_};
 ghost use lib.ListN.{drop};
-ghost use Rattle.jtype.specs.Refusal.{numberOf};
 ghost use Rattle.jtype.specs.OneType.{brackets, semicolonFrom, isBase, unnamedType, classType, element, typeAt};
-
-// Why a descriptor is refused, in the order of document 01's numbers 1 to 14.
-pub enum Refusal {
-    UnexpectedEnd,
-    TooManyDimensions,
-    LoneClose,
-    TrailingAfterType,
-    EmptyClassName,
-    MissingSemicolon,
-    CloseAfterBracket,
-    ArrayOfVoid,
-    Unrecognised,
-    MissingOpening,
-    VoidParameter,
-    MissingReturn,
-    TrailingAfterMethod,
-    // The numbers do not fit the lent buffer.
-    NoRoom,
-}
 
 // A type that was read: its base letter, its dimensions, and where its class name stands in the text (0 and 0 without one).
 pub struct TypeRecord {
@@ -176,26 +157,4 @@ pub fn get_next(text: &[u8], at: usize) -> Next
         return Next::Refused(Refusal::TooManyDimensions);
     }
     element_at(text, depth, place)
-}
-
-// The number that document 01 gives to a refusal.
-pub fn number_of(refusal: Refusal) -> u64
-    ensures { λ r. ⌜ r ≡ numberOf refusal ⌝ }
-{
-    match refusal {
-        Refusal::UnexpectedEnd => 1,
-        Refusal::TooManyDimensions => 2,
-        Refusal::LoneClose => 3,
-        Refusal::TrailingAfterType => 4,
-        Refusal::EmptyClassName => 5,
-        Refusal::MissingSemicolon => 6,
-        Refusal::CloseAfterBracket => 7,
-        Refusal::ArrayOfVoid => 8,
-        Refusal::Unrecognised => 9,
-        Refusal::MissingOpening => 10,
-        Refusal::VoidParameter => 11,
-        Refusal::MissingReturn => 12,
-        Refusal::TrailingAfterMethod => 13,
-        Refusal::NoRoom => 14,
-    }
 }

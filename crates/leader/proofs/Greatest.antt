@@ -8,8 +8,9 @@ use mathlib.Core.Path.{_≡_, refl}
 use mathlib.Core.List.{List, [], _∷_, _++_}
 use Rattle.bytecode.specs.Length.{operandsAt}
 use Rattle.reads.specs.Signed.{i32At}
-use Rattle.leader.specs.Greatest.{upTo, greatest}
-use Rattle.leader.specs.Targets.{target, entryTargets, switchTargets}
+use Rattle.greatest.specs.Greatest.{upTo, greatest}
+use Rattle.greatest.specs.Greatest.{target}
+use Rattle.leader.specs.Targets.{entryTargets, switchTargets}
 
 -- the greatest over two lists is the greater of each
 pub greatest-append :

@@ -10,7 +10,7 @@ use Rattle.basics.specs.Bytes.{byteAt}
 use Rattle.basics.proofs.Every.{every-at}
 use Rattle.jvms.specs.Format.{formatOf}
 use Rattle.bytecode.specs.Length.{tableBytes, lookupBytes, bytesOf}
-use Rattle.leader.specs.Greatest.{upTo, greatest}
+use Rattle.greatest.specs.Greatest.{upTo, greatest}
 use Rattle.leader.specs.Targets.{targetsBy, afterBy, leadersAt}
 use Rattle.branch.specs.Branch.{branchOf}
 use Rattle.branch.specs.declared.Branch.{Branch}

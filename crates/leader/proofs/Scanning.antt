@@ -11,7 +11,7 @@ use lib.ListN.{length}
 use borrow.Author.Tests.{lt-ltb, le-ltb}
 use Rattle.bytecode.specs.declared.Measure.{Measure}
 use Rattle.bytecode.specs.declared.Measure.the-variants.{Length, NoLength}
-use Rattle.leader.specs.Greatest.{greatest}
+use Rattle.greatest.specs.Greatest.{greatest}
 use Rattle.leader.specs.Targets.{leadersAt}
 use Rattle.leader.specs.Scan.{Instructions, ended, unmeasured, instruction, scanFrom, instructions, scanCount, leadersOf, answered, blockLeader}
 use Rattle.leader.specs.declared.Scan.{Scan}

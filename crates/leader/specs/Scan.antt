@@ -8,7 +8,7 @@ use lib.Dec.{ltb}
 use lib.ListN.{length}
 use Rattle.bytecode.specs.declared.Measure.{Measure}
 use Rattle.bytecode.specs.declared.Measure.the-variants.{Length, NoLength}
-use Rattle.leader.specs.Greatest.{greatest}
+use Rattle.greatest.specs.Greatest.{greatest}
 use Rattle.leader.specs.Targets.{leadersAt}
 use Rattle.leader.specs.declared.Scan.{Scan}
 use Rattle.leader.specs.declared.Scan.the-variants.{Leader, Unmeasured}

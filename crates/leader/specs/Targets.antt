@@ -11,10 +11,6 @@ use Rattle.branch.specs.Branch.{branchOf}
 use Rattle.branch.specs.declared.Branch.{Branch}
 use Rattle.branch.specs.declared.Branch.the-variants.{Near, Far, Table, Lookup, Ends, Plain}
 
--- a target that is given plus half: "A target below 0 is no leader."
-unfoldable pub target : ℕ → ℕ → List ℕ
-target half lifted = pick (ltb lifted half) [] ((lifted - half) ∷ [])
-
 -- the targets of count 32-bit offsets from an index on, step bytes from each to the next
 unfoldable pub entryTargets : List ℕ → ℕ → ℕ → ℕ → ℕ → List ℕ
 entryTargets code pc step zero at = []

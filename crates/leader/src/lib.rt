@@ -2,13 +2,15 @@
 use branch::Branch;
 use branch::branch_of;
 use bytecode::Measure;
+use greatest::aim;
+use greatest::raise;
 ghost use mathlib.Core.Path.{_≡_};
 ghost use mathlib.Core.List.{[]};
 ghost use Prim.Native.Nat.{_+_, _-_, _*_, _^_, max, _≤_, _<_};
 ghost use lib.ListN.{length};
 ghost use Rattle.bytecode.specs.Length.{operandsAt, bytesOf, lengthOf};
-ghost use Rattle.leader.specs.Greatest.{upTo, greatest};
-ghost use Rattle.leader.specs.Targets.{target, entryTargets, switchTargets, leadersAt};
+ghost use Rattle.greatest.specs.Greatest.{greatest};
+ghost use Rattle.leader.specs.Targets.{entryTargets, switchTargets, leadersAt};
 ghost use Rattle.leader.specs.Scan.{blockLeader};
 
 // What scanning a code answers.
@@ -17,28 +19,6 @@ pub enum Scan {
     Leader { at: usize, count: usize },
     // The first instruction that has no length, and how many stand before it.
     Unmeasured { at: usize, count: usize },
-}
-
-// The greater of best and x, where x is at or below the fault.
-fn raise(fault: usize, best: usize, x: usize) -> usize
-    ensures { λ r. ⌜ r ≡ max best (upTo fault x) ⌝ }
-{
-    if x <= fault {
-        if best < x {
-            return x;
-        }
-    }
-    best
-}
-
-// The same with a target that is given plus half. One below 0 is no leader.
-fn aim(half: usize, lifted: usize, fault: usize, best: usize) -> usize
-    ensures { λ r. ⌜ r ≡ max best (greatest fault (target half lifted)) ⌝ }
-{
-    if lifted < half {
-        return best;
-    }
-    raise(fault, best, lifted - half)
 }
 
 // The same with the targets of a switch's entries: count offsets from an index on, step bytes from each to the next.
@@ -116,7 +96,7 @@ fn leaders_at(code: &[u8], pc: usize, next: usize, fault: usize, best: usize) ->
 pub fn block_leader(code: &[u8], fault: usize) -> Scan
     ensures { λ r. ⌜ r ≡ blockLeader lengthOf [] (now (code .entry)) fault ⌝ }
 {
-    let lengths = bytecode::fixed_lengths();
+    let lengths = fixed::fixed_lengths();
     let mut pc: usize = 0;
     let mut best: usize = 0;
     let mut count: usize = 0;

@@ -19,7 +19,7 @@ use Rattle.bytecode.proofs.Laws.{rule-positive, rule-inside}
 use Rattle.bytecode.specs.Rule.{LengthRule}
 use Rattle.bytecode.specs.declared.Measure.{Measure}
 use Rattle.bytecode.specs.declared.Measure.the-variants.{Length, NoLength}
-use Rattle.leader.specs.Greatest.{greatest}
+use Rattle.greatest.specs.Greatest.{greatest}
 use Rattle.leader.specs.Scan.{Instructions, ended, unmeasured, instruction, scanStep, scanFrom, instructions, scanCount, leadersOf, answered, blockLeader}
 use Rattle.leader.specs.Targets.{leadersAt}
 use Rattle.leader.specs.declared.Scan.{Scan}

@@ -22,7 +22,8 @@ use Rattle.reads.specs.Signed.{i16At, i32At}
 use Rattle.lengths.proofs.Agree.{padded, entries-agree, pairs-agree}
 use Rattle.lengths.proofs.Signed.{signed-reading, unlifted}
 use Rattle.branch.specs.Branch.{branchOf}
-use Rattle.leader.specs.Targets.{target, entryTargets, switchTargets, targetsBy, afterBy, targetsAt, leadersAt}
+use Rattle.greatest.specs.Greatest.{target}
+use Rattle.leader.specs.Targets.{entryTargets, switchTargets, targetsBy, afterBy, targetsAt, leadersAt}
 use Rattle.branch.specs.declared.Branch.{Branch}
 use Rattle.branch.specs.declared.Branch.the-variants.{Near, Far, Table, Lookup, Ends, Plain}
 use Rattle.leaders.specs.Leader.{TargetsAgree}

@@ -10,7 +10,7 @@ use lib.Dec.{leb}
 use borrow.Author.Tests.{leb-true, leb-false, le-leb}
 use Rattle.basics.specs.Choice.{pick}
 use Rattle.basics.specs.Member.{_∈_}
-use Rattle.leader.specs.Greatest.{upTo, greatest}
+use Rattle.greatest.specs.Greatest.{upTo, greatest}
 
 up-to-below : (limit x : ℕ) → upTo limit x ≤ limit
 unfolding upTo

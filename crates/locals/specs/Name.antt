@@ -2,45 +2,28 @@
 -- length; else `this` for local 0 of a non-static method (flag 8 clear); else `<parameterK>` when a parameter starts at that
 -- slot; else `<localN>`."
 -- Assumes nothing.
-use Prim.Native.Nat.{ℕ, _+_, _-_, _/_, _%_, _≤_}
+use Prim.Native.Nat.{ℕ, _+_, _-_, _/_, _%_}
 use mathlib.Core.Bool.{Bool}
-use mathlib.Core.List.{List, [], _∷_, _++_}
-use lib.Dec.{eqb, leb, ltb}
+use mathlib.Core.List.{List, _++_}
+use lib.Dec.{eqb}
 use lib.ListN.{take, drop}
 use Rattle.basics.specs.Ascii.{ascii}
 use Rattle.basics.specs.Choice.{pick, both}
 use Rattle.tables.specs.LocalRecord.{recordsIn}
-use Rattle.tables.specs.declared.RecordPlace.{RecordPlace}
 use Rattle.descriptor.specs.Readers.{parameterAt}
-use Rattle.descriptor.specs.Search.{firstFrom}
-use Rattle.descriptor.specs.declared.Found.{Found}
-use Rattle.descriptor.specs.declared.Found.the-variants.{At, Absent}
+use Rattle.fieldtype.specs.Search.{firstFrom}
+use Rattle.fieldtype.specs.declared.Found.{Found}
+use Rattle.fieldtype.specs.declared.Found.the-variants.{At, Absent}
 use Rattle.text.specs.Decimal.{decimal}
-use Rattle.locals.specs.declared.NamePlace.{NamePlace}
-use Rattle.locals.specs.declared.NamePlace.the-variants.{Name, Unnamed}
+use Rattle.search.specs.Search.{firstMatch}
+use Rattle.search.specs.declared.NamePlace.{NamePlace}
+use Rattle.search.specs.declared.NamePlace.the-variants.{Name, Unnamed}
 
 -- ---- methods
 
 -- "a non-static method (flag 8 clear)"
 unfoldable pub isInstance : ℕ → Bool
 isInstance flags = eqb (flags / 8 % 2) 0
-
--- ---- records
-
--- a record of that slot, whose window holds the load's index
-abbrev pub covers : ℕ → ℕ → ℕ → ℕ → ℕ → Bool
-covers start size of slot load = both (eqb of slot) (both (leb start load) (ltb load (start + size)))
-
--- the first record that matches
-unfoldable pub firstMatch : List RecordPlace → ℕ → ℕ → NamePlace
-firstMatch [] slot load = Unnamed
-firstMatch (r ∷ rs) slot load =
-    pick (covers (r .start) (r .length) (r .slot) slot load) (Name (r .name) (r .next)) (firstMatch rs slot load)
-
--- a name that is found lies in the records
-abbrev pub nameInside : ℕ → NamePlace → Type 0
-nameInside size (Name from to) = (from ≤ to) × (to ≤ size)
-nameInside size Unnamed = Unit
 
 -- ---- parameters: "from what follows the first colon of the name signature (none without it)"
 

@@ -8,18 +8,8 @@ use mathlib.Core.List.{List, [], _∷_}
 use lib.Dec.{eqb}
 use lib.ListN.{length, getD}
 use Rattle.basics.specs.Choice.{pick}
-use Rattle.names.specs.Names.{dotOf, dotted, bracketPairs}
-
-pub dotted-length : (name : List ℕ) → length (dotted name) ≡ length name
-unfolding dotted
-dotted-length [] = refl
-dotted-length (x ∷ xs) = ap suc (dotted-length xs)
-
-pub dotted-at : (name : List ℕ) (i : ℕ) → getD (dotted name) i 0 ≡ dotOf (getD name i 0)
-unfolding dotted dotOf
-dotted-at [] i = refl
-dotted-at (x ∷ xs) zero = refl
-dotted-at (x ∷ xs) (suc i) = dotted-at xs i
+use Rattle.classname.specs.ClassName.{dotOf, dotted}
+use Rattle.names.specs.Names.{bracketPairs}
 
 pub pairs-length : (n : ℕ) → length (bracketPairs n) ≡ n + n
 unfolding bracketPairs

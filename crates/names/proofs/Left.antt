@@ -10,8 +10,8 @@ use lib.ListN.{length}
 use borrow.Author.Tests.{ne-eqb}
 use Rattle.basics.specs.Ascii.{ascii}
 use Rattle.basics.specs.Choice.{pick}
-use Rattle.descriptor.specs.Types.{Types, over, unread, one, typesAt, typesOf}
-use Rattle.descriptor.specs.declared.FieldType.{FieldType}
+use Rattle.fieldtype.specs.Types.{Types, over, unread, one, typesAt, typesOf}
+use Rattle.fieldtype.specs.declared.FieldType.{FieldType}
 use Rattle.text.specs.Writing.{most, Written}
 use Rattle.text.proofs.Writing.{written-then, written-none}
 use Rattle.names.specs.Names.{typeName, typeNames, commaed, joined, parameterNames}

@@ -1,36 +1,17 @@
 -- Names as the messages print them (document 01, "Action and cause").
 -- Assumes nothing.
 use Prim.Native.Nat.{ℕ, zero, suc, _-_}
-use mathlib.Core.Bool.{Bool}
 use mathlib.Core.List.{List, [], _∷_, _++_}
 use lib.Dec.{eqb}
 use lib.ListN.{take, drop, getD}
 use Rattle.basics.specs.Ascii.{ascii}
-use Rattle.basics.specs.Bytes.{byteAt}
-use Rattle.basics.specs.Choice.{pick, sameList}
-use Rattle.descriptor.specs.Search.{firstFrom}
-use Rattle.descriptor.specs.Types.{Types, over, unread, one, typesOf}
-use Rattle.descriptor.specs.declared.FieldType.{FieldType}
-use Rattle.descriptor.specs.declared.Found.{Found}
-use Rattle.descriptor.specs.declared.Found.the-variants.{At, Absent}
-
--- ---- classes: "`java/lang/String` and `java/lang/Object` shorten, names starting with `[` stay, others get dots for slashes"
-
-unfoldable pub dotOf : ℕ → ℕ
-dotOf byte = pick (eqb byte 47) 46 byte
-
-unfoldable pub dotted : List ℕ → List ℕ
-dotted [] = []
-dotted (x ∷ xs) = dotOf x ∷ dotted xs
-
-abbrev pub startsWith : ℕ → List ℕ → Bool
-startsWith byte name = eqb (byteAt name 0) byte
-
-unfoldable pub className : List ℕ → List ℕ
-className name =
-    pick (sameList name (ascii "java/lang/String")) (ascii "String")
-    (pick (sameList name (ascii "java/lang/Object")) (ascii "Object")
-    (pick (startsWith 91 name) name (dotted name)))
+use Rattle.basics.specs.Choice.{pick}
+use Rattle.classname.specs.ClassName.{className}
+use Rattle.fieldtype.specs.Search.{firstFrom}
+use Rattle.fieldtype.specs.Types.{Types, over, unread, one, typesOf}
+use Rattle.fieldtype.specs.declared.FieldType.{FieldType}
+use Rattle.fieldtype.specs.declared.Found.{Found}
+use Rattle.fieldtype.specs.declared.Found.the-variants.{At, Absent}
 
 -- ---- types
 

@@ -1,8 +1,8 @@
 // Class names, type names and parameter lists, as the messages print them (document 01, "Action and cause").
-use check::same;
-use descriptor::FieldType;
-use descriptor::Found;
-use descriptor::Taken;
+use classname::put_class_name;
+use fieldtype::FieldType;
+use fieldtype::Found;
+use fieldtype::Taken;
 use text::put;
 use text::put_at;
 ghost use mathlib.Core.Path.{_≡_};
@@ -13,51 +13,7 @@ ghost use Rattle.basics.specs.Choice.{pick};
 ghost use lib.ListN.{length, take, drop, getD};
 ghost use Rattle.text.specs.Writing.{Written};
 ghost use Rattle.names.specs.Commas.{commaBefore};
-ghost use Rattle.names.specs.Names.{dotOf, dotted, startsWith, className, baseNames, baseName, bracketPairs, elementName, typeName, parameterNames};
-
-fn dot(byte: u8) -> u8
-    ensures { λ r. ⌜ r ≡ dotOf byte ⌝ }
-{
-    if byte == b'/' { b'.' } else { byte }
-}
-
-// Writes a name over the start of the output, with dots for slashes. Answers its length.
-fn put_dotted(out: &mut [u8], name: &[u8]) -> usize
-    ensures { λ r. ⌜ Written 0 (dotted (now (name .entry))) (now (out .entry)) r (now (out .exit)) ⌝ }
-{
-    let room = text::shorter(name.len(), out.len());
-    let mut i = 0;
-    while i < room {
-        out[i] = dot(name[i]);
-        i += 1;
-    }
-    name.len()
-}
-
-fn starts_with_bracket(name: &[u8]) -> bool
-    ensures { λ r. ⌜ r ≡ startsWith 91 (now (name .entry)) ⌝ }
-{
-    if name.len() == 0 {
-        return false;
-    }
-    name[0] == b'['
-}
-
-// Writes a class name over the start of the output. Answers its length.
-pub fn put_class_name(out: &mut [u8], name: &[u8]) -> usize
-    ensures { λ r. ⌜ Written 0 (className (now (name .entry))) (now (out .entry)) r (now (out .exit)) ⌝ }
-{
-    if same(name, b"java/lang/String") {
-        return put(out, b"String");
-    }
-    if same(name, b"java/lang/Object") {
-        return put(out, b"Object");
-    }
-    if starts_with_bracket(name) {
-        return put(out, name);
-    }
-    put_dotted(out, name)
-}
+ghost use Rattle.names.specs.Names.{baseNames, baseName, bracketPairs, elementName, typeName, parameterNames};
 
 // A base type's name: its length, its bytes and zeros.
 pub struct BaseName {
@@ -112,7 +68,7 @@ fn base_row(k: usize) -> BaseName
 fn put_base_name(out: &mut [u8], letter: u8) -> usize
     ensures { λ r. ⌜ Written 0 (baseName letter) (now (out .entry)) r (now (out .exit)) ⌝ }
 {
-    let Found::At(k) = descriptor::find_byte(b"BCDFIJSZ", letter, 0) else {
+    let Found::At(k) = fieldtype::find_byte(b"BCDFIJSZ", letter, 0) else {
         return 0;
     };
     let row = base_row(k);
@@ -139,15 +95,6 @@ fn bracket(i: usize) -> u8
     ensures { λ r. ⌜ r ≡ pick (eqb (i % 2) 0) 91 93 ⌝ }
 {
     if i % 2 == 0 { b'[' } else { b']' }
-}
-
-// Writes a class name from a place on. Answers the place after it.
-pub fn put_class_at(out: &mut [u8], at: usize, name: &[u8]) -> usize
-    ensures { λ r. ⌜ Written at (className (now (name .entry))) (now (out .entry)) r (now (out .exit)) ⌝ }
-{
-    let from = text::shorter(at, out.len());
-    let n = put_class_name(&mut out[from..], name);
-    text::sum(at, n)
 }
 
 // Writes a class or a base type over the start of the output. A class name is handed on as a part of the descriptor.
@@ -218,7 +165,7 @@ pub fn put_params_at(out: &mut [u8], at: usize, descriptor: &[u8]) -> usize
         if descriptor[index] == b')' {
             return next;
         }
-        let Taken::Field(t) = descriptor::parse_field_type(descriptor, index) else {
+        let Taken::Field(t) = fieldtype::parse_field_type(descriptor, index) else {
             return next;
         };
         next = put_param_at(out, next, descriptor, index, t);

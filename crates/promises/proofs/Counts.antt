@@ -6,7 +6,7 @@ use mathlib.Core.Path.{_≡_, refl}
 use Rattle.bounds.proofs.Counts.{counts-small}
 use Rattle.bounds.specs.Counts.{Small}
 use Rattle.items.specs.Number.{greatest}
-use Rattle.ffi.specs.Numbers.{low, reportNumbers}
+use Rattle.structs.specs.Structs.{low, reportNumbers}
 use Rattle.answer.specs.Answer.{numbered}
 use Rattle.report.specs.Report.{reportOf}
 use Rattle.answer.specs.declared.Report.{Report}

@@ -6,7 +6,7 @@ use mathlib.Core.List.{List}
 use Rattle.block.proofs.Answers as block
 use Rattle.bytecode.proofs.Laws as bytecode
 use Rattle.casefile.proofs.Answer as casefile
-use Rattle.jdescriptor.proofs.Numbers as jdescriptor
+use Rattle.judging.proofs.Numbers as jdescriptor
 use Rattle.leader.proofs.Answer as leader
 use Rattle.answer.proofs.Answers as report
 use Rattle.promises.specs.Numbered.{SamePromise, PromisesNumbered}

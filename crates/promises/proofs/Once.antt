@@ -2,7 +2,7 @@
 -- Assumes nothing.
 use mathlib.Core.Path.{_≡_}
 use Rattle.basics.proofs.Outcome.{one-outcome}
-use Rattle.bytecode.proofs.Laws.{fixed-lengths-once}
+use Rattle.fixed.proofs.Laws.{fixed-lengths-once}
 use Rattle.index.proofs.Tables.{tabled-once}
 use Rattle.answer.proofs.Answers.{delivered-once}
 use Rattle.text.proofs.Writing.{written-once}

@@ -5,8 +5,8 @@ use Prim.Native.Nat.{ℕ}
 use mathlib.Core.Path.{_≡_}
 use mathlib.Core.List.{List}
 use Rattle.basics.specs.Bytes.{AreBytes}
-use Rattle.ffi.specs.Numbers.{nth, reportNumbers}
-use Rattle.ffi.specs.declared.KorsepalReport.{KorsepalReport}
+use Rattle.structs.specs.Structs.{nth, reportNumbers}
+use Rattle.structs.specs.declared.KorsepalReport.{KorsepalReport}
 use Rattle.answer.specs.Answer.{numbered}
 use Rattle.report.specs.Report.{reportOf}
 

@@ -9,7 +9,7 @@ use mathlib.Core.List.{List}
 use Rattle.block.specs.Room.{numbered as walkNumbered}
 use Rattle.bytecode.specs.Length.{numbered as lengthNumbered}
 use Rattle.casefile.specs.Whole.{numbered as caseNumbered}
-use Rattle.jdescriptor.specs.Answer.{numbered as strictNumbered}
+use Rattle.judging.specs.Judged.{numbered as strictNumbered}
 use Rattle.leader.specs.Scan.{numbered as leaderNumbered}
 use Rattle.answer.specs.Answer.{numbered as reportNumbered}
 

@@ -5,7 +5,7 @@
 use Prim.Native.Nat.{ℕ}
 use mathlib.Core.Path.{_≡_}
 use mathlib.Core.List.{List}
-use Rattle.bytecode.specs.Length.{FixedLengths}
+use Rattle.fixed.specs.Fixed.{FixedLengths}
 use Rattle.index.specs.Index.{Tabled}
 use Rattle.answer.specs.Answer.{Said, Delivered}
 use Rattle.answer.specs.declared.Report.{Report}

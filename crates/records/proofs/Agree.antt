@@ -11,7 +11,7 @@ use Rattle.tables.specs.LocalRecord.{recordAt, recordsIn, thenRecord}
 use Rattle.tables.specs.declared.LocalRecord.{LocalRecord}
 use Rattle.tables.specs.declared.LocalRecord.the-variants.{Read, Wrong}
 use Rattle.tables.specs.declared.RecordPlace.{RecordPlace}
-use Rattle.locals.specs.Name.{firstMatch}
+use Rattle.search.specs.Search.{firstMatch}
 use Rattle.records.specs.Agree.{SearchesAgree}
 use Rattle.records.proofs.Eights.{run-match}
 

@@ -13,9 +13,9 @@ use Rattle.tables.specs.LocalRecord.{recordAt, recordsIn, recordWithin, thenRec
 use Rattle.tables.specs.declared.LocalRecord.{LocalRecord as Item}
 use Rattle.tables.specs.declared.LocalRecord.the-variants.{Read, Wrong}
 use Rattle.tables.specs.declared.RecordPlace.{RecordPlace}
-use Rattle.locals.specs.Name.{covers, firstMatch}
-use Rattle.locals.specs.declared.NamePlace.{NamePlace}
-use Rattle.locals.specs.declared.NamePlace.the-variants.{Name, Unnamed}
+use Rattle.search.specs.Search.{covers, firstMatch}
+use Rattle.search.specs.declared.NamePlace.{NamePlace}
+use Rattle.search.specs.declared.NamePlace.the-variants.{Name, Unnamed}
 use Rattle.records.specs.Run.{viewedAll, orElse, blank, runOf}
 use Rattle.records.specs.declared.LocalRecord.{LocalRecord}
 use Rattle.records.proofs.Search.{match-append}

@@ -9,9 +9,9 @@ use mathlib.Core.List.{List, [], _∷_, _++_}
 use lib.ListN.{length, getD, drop, drop-of-length-le}
 use Rattle.basics.specs.Choice.{pick}
 use Rattle.tables.specs.declared.RecordPlace.{RecordPlace}
-use Rattle.locals.specs.Name.{covers, firstMatch}
-use Rattle.locals.specs.declared.NamePlace.{NamePlace}
-use Rattle.locals.specs.declared.NamePlace.the-variants.{Name, Unnamed}
+use Rattle.search.specs.Search.{covers, firstMatch}
+use Rattle.search.specs.declared.NamePlace.{NamePlace}
+use Rattle.search.specs.declared.NamePlace.the-variants.{Name, Unnamed}
 use Rattle.records.specs.Run.{viewed, viewedAll, orElse, blank}
 use Rattle.records.specs.declared.LocalRecord.{LocalRecord}
 

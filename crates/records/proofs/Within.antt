@@ -17,9 +17,9 @@ use Rattle.items.proofs.Laws.{number-within, text-within}
 use Rattle.tables.specs.LocalRecord.{recordAt, recordsIn, recordWithin, thenRecord}
 use Rattle.tables.specs.declared.LocalRecord.{LocalRecord}
 use Rattle.tables.specs.declared.LocalRecord.the-variants.{Read, Wrong}
-use Rattle.locals.specs.Name.{covers, firstMatch, nameInside}
-use Rattle.locals.specs.declared.NamePlace.{NamePlace}
-use Rattle.locals.specs.declared.NamePlace.the-variants.{Name}
+use Rattle.search.specs.Search.{covers, firstMatch, nameInside}
+use Rattle.search.specs.declared.NamePlace.{NamePlace}
+use Rattle.search.specs.declared.NamePlace.the-variants.{Name}
 
 module _ (bytes : List ℕ) (first : ℕ) where
   abbrev Within : LocalRecord → Type 0

@@ -4,7 +4,7 @@ use Prim.Native.Nat.{ℕ, _≤_}
 use mathlib.Core.List.{List}
 use mathlib.Core.Path.{_≡_}
 use Rattle.tables.specs.LocalRecord.{recordsIn}
-use Rattle.locals.specs.Name.{firstMatch}
+use Rattle.search.specs.Search.{firstMatch}
 use Rattle.records.specs.Run.{viewedAll, runOf}
 
 -- of any bytes, where the run has room for as many records as there are at most

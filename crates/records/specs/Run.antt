@@ -5,8 +5,8 @@ use Prim.Native.Nat.{ℕ, zero, suc, _-_}
 use mathlib.Core.List.{List, [], _∷_, map}
 use Rattle.tables.specs.LocalRecord.{recordAt, thenRecord}
 use Rattle.tables.specs.declared.RecordPlace.{RecordPlace}
-use Rattle.locals.specs.declared.NamePlace.{NamePlace}
-use Rattle.locals.specs.declared.NamePlace.the-variants.{Name, Unnamed}
+use Rattle.search.specs.declared.NamePlace.{NamePlace}
+use Rattle.search.specs.declared.NamePlace.the-variants.{Name, Unnamed}
 use Rattle.records.specs.declared.LocalRecord.{LocalRecord}
 use Rattle.records.specs.declared.Reading.{Reading}
 

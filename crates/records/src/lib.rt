@@ -1,13 +1,13 @@
 // The same name search over a lent run of local records (document 01, "Expected form in each place"), and the filling of such a
 // run from a case's bytes.
-use locals::NamePlace;
-use locals::covers_load;
+use search::NamePlace;
+use search::covers_load;
 ghost use Prim.Native.Nat.{_-_};
 ghost use mathlib.Core.Path.{_≡_};
 ghost use mathlib.Core.List.{_∷_, []};
 ghost use lib.ListN.{length};
 ghost use Rattle.tables.specs.LocalRecord.{recordsIn};
-ghost use Rattle.locals.specs.Name.{firstMatch, nameInside};
+ghost use Rattle.search.specs.Search.{firstMatch, nameInside};
 ghost use Rattle.records.specs.Run.{viewed, viewedAll, orElse, readNext, runOf};
 
 // A local record: the window of indexes that it holds for, its slot, and where its name begins and ends.

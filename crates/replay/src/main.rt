@@ -4,7 +4,7 @@ use answer::Report;
 use check::same;
 use descriptor::Params;
 use descriptor::Slots;
-use jdescriptor::Answer;
+use judging::Answer;
 use libc::STDOUT_FILENO;
 use text::put_at;
 use text::put_decimal_at;
@@ -154,7 +154,7 @@ fn put_strict(out: &mut [u8], answer: Answer, numbers: &[u64]) -> usize {
             let end = put_at(out, 0, b"0");
             put_numbers(out, end, numbers_of(numbers, count))
         }
-        Answer::Refused(refusal) => put_decimal_at(out, 0, jtype::number_of(refusal) as usize),
+        Answer::Refused(refusal) => put_decimal_at(out, 0, refusal::number_of(refusal) as usize),
     }
 }
 

@@ -4,21 +4,25 @@ use mathlib.Core.Path.{refl}
 use Rattle.basics.specs.Bytes.{u16At, u32At}
 use Rattle.jvms.specs.Format.{formatOf}
 use Rattle.reads.specs.Signed.{lifted, i16At, i32At}
-use Rattle.bytecode.specs.Length.{tableEntries, lookupPairs, tableBytes, lookupBytes, wideBytes, bytesOf, fixedLength, within, lengthOf}
-use Rattle.leader.specs.Greatest.{upTo, greatest}
+use Rattle.bytecode.specs.Length.{tableEntries, lookupPairs, tableBytes, lookupBytes, wideBytes, bytesOf, within, lengthOf}
+use Rattle.fixed.specs.Fixed.{fixedLength}
+use Rattle.greatest.specs.Greatest.{upTo, greatest}
 use Rattle.leader.specs.Scan.{scanFrom, instructions, scanCount, leadersOf, answered, blockLeader}
 use Rattle.branch.specs.Branch.{branchOf}
-use Rattle.leader.specs.Targets.{target, entryTargets, switchTargets, leadersAt}
+use Rattle.greatest.specs.Greatest.{target}
+use Rattle.leader.specs.Targets.{entryTargets, switchTargets, leadersAt}
 use Rattle.descriptor.specs.Readers.{slotsOf, judged, parameters, startingAt, parameterAt, closing, slotsBehind, returnSlots}
-use Rattle.descriptor.specs.Search.{firstIn, firstFrom}
-use Rattle.descriptor.specs.Types.{brackets, typeBehind, fieldTypeAt, typeSlots, typesFrom, typesAt, typesOf}
+use Rattle.fieldtype.specs.Search.{firstIn, firstFrom}
+use Rattle.fieldtype.specs.Types.{brackets, typeBehind, fieldTypeAt, typeSlots, typesFrom, typesAt, typesOf}
 use Rattle.text.specs.Decimal.{digits, decimal}
 use Rattle.text.specs.Writing.{over}
-use Rattle.names.specs.Names.{dotOf, dotted, className, baseNames, baseName, elementName, bracketPairs, typeName, typeNames, commaed, joined, parameterNames}
+use Rattle.classname.specs.ClassName.{dotOf, dotted, className}
+use Rattle.names.specs.Names.{baseNames, baseName, elementName, bracketPairs, typeName, typeNames, commaed, joined, parameterNames}
 use Rattle.jtype.specs.OneType.{brackets as strictBrackets, isBase, unnamedType, element, typeIn, typeAt}
-use Rattle.jtype.specs.Refusal.{numberOf}
-use Rattle.jdescriptor.specs.Answer.{answer, numbered}
-use Rattle.jdescriptor.specs.Reading.{typeReading, returnAt, parametersAt, methodReading}
+use Rattle.refusal.specs.Refusal.{numberOf}
+use Rattle.jdescriptor.specs.Answer.{answer}
+use Rattle.judging.specs.Judged.{numbered}
+use Rattle.judging.specs.Reading.{typeReading, returnAt, parametersAt, methodReading}
 use Rattle.items.specs.Number.{numberFrom, numberAt}
 use Rattle.items.specs.Text.{textAt, textPart, afterText, classOf, nameOf, descriptorOf}
 use Rattle.tables.specs.Layout.{membersThen, recordsThen, runBy}
@@ -33,7 +37,8 @@ use Rattle.effects.specs.Rows.{rowOf}
 use Rattle.block.specs.Room.{completedFrom, completed, blockWalk}
 use Rattle.block.specs.Walk.{step, walkFrom, walk}
 use Rattle.fault.specs.Decoding.{actionOf, constructs, decoded}
-use Rattle.locals.specs.Name.{firstMatch, signatureParameter, numberedName, localName}
+use Rattle.search.specs.Search.{firstMatch}
+use Rattle.locals.specs.Name.{signatureParameter, numberedName, localName}
 use Rattle.action.specs.Action.{actionText}
 use Rattle.message.specs.Message.{causeText, messageText}
 use Rattle.words.specs.Words.{methodText, invokeText}

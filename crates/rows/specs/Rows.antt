@@ -17,8 +17,9 @@ use Rattle.leader.specs.Scan.{blockLeader}
 use Rattle.leader.specs.declared.Scan.{Scan}
 use Rattle.leader.specs.declared.Scan.the-variants.{Leader}
 use Rattle.names.specs.Names.{parameterNames}
-use Rattle.jdescriptor.specs.Answer.{answer, numbered}
-use Rattle.jdescriptor.specs.Reading.{typeReading, methodReading}
+use Rattle.jdescriptor.specs.Answer.{answer}
+use Rattle.judging.specs.Judged.{numbered}
+use Rattle.judging.specs.Reading.{typeReading, methodReading}
 use Rattle.answer.specs.Answer.{numbered as reported}
 use Rattle.report.specs.Report.{reportOf, reportedIn}
 

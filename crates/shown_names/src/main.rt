@@ -50,7 +50,7 @@ fn show(text: &[u8]) {
 // A class name written from the second byte of an output on, of which so many bytes are lent.
 fn show_lent(out: &mut [u8], room: usize) {
     if room <= out.len() {
-        let next = names::put_class_at(&mut out[..room], 1, b"a/b/c");
+        let next = classname::put_class_at(&mut out[..room], 1, b"a/b/c");
         say_number(b"room ", room);
         say_number(b": next ", next);
         say(b", ");

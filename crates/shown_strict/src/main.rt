@@ -4,7 +4,7 @@
 // The stored answers were made by running jdescriptor itself, built with empty stand-ins for the crates thiserror and serde.
 // Its error gave the number, by its text in document 01's table; its types gave the records, the place of a name being
 // counted from what its Display writes; 14 was added where four numbers a type exceed the room.
-use jdescriptor::Answer;
+use judging::Answer;
 use libc::STDOUT_FILENO;
 ghost use Prim.Native.Nat.{_≤_, _<_};
 
@@ -54,7 +54,7 @@ fn show_answer(answer: Answer, numbers: &[u64]) {
         }
         Answer::Refused(r) => {
             say(b": ");
-            say_number(jtype::number_of(r));
+            say_number(refusal::number_of(r));
         }
     }
     say(b" |");
@@ -141,7 +141,7 @@ fn spell(number: usize, text: &mut [u8]) {
 fn told(answer: Answer) -> u64 {
     match answer {
         Answer::Types(count) => 15 + count as u64 % 1000,
-        Answer::Refused(r) => jtype::number_of(r),
+        Answer::Refused(r) => refusal::number_of(r),
     }
 }
 

@@ -109,7 +109,7 @@ fn in_three(code: &[u8], fault: usize) {
 // Three loads, the opcode with two operands that name a member of its kind, and the fault behind it.
 fn show_opcode(op: u8) {
     let member = if op < 182 { 2 } else { 3 };
-    let length = bytecode::fixed_length(op) as usize;
+    let length = fixed::fixed_length(op) as usize;
     let fault = if length == 0 { 4 } else { 3 + length };
     show(&[0x2a, 0x2b, 0x2c, op, 0, member, 0, 0], 0, fault);
 }

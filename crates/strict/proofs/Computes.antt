@@ -15,9 +15,9 @@ use Rattle.jvms.specs.Descriptor.{NoSemicolon, ClassName, Named, WellFormed, We
 use Rattle.jtype.specs.OneType.{brackets, semicolonIn, isBase, typeRecord, unnamedType, classType, element, typeIn}
 use Rattle.jtype.specs.declared.Found.the-variants.{At, Absent}
 use Rattle.jtype.specs.declared.Next.the-variants.{Is, Close, Refused}
-use Rattle.jtype.specs.declared.Refusal.{Refusal}
-use Rattle.jtype.specs.declared.Refusal.the-variants.{UnexpectedEnd, TooManyDimensions, EmptyClassName, MissingSemicolon}
-use Rattle.jtype.specs.declared.Refusal.the-variants.{CloseAfterBracket, ArrayOfVoid, Unrecognised}
+use Rattle.refusal.specs.declared.Refusal.{Refusal}
+use Rattle.refusal.specs.declared.Refusal.the-variants.{UnexpectedEnd, TooManyDimensions, EmptyClassName, MissingSemicolon}
+use Rattle.refusal.specs.declared.Refusal.the-variants.{CloseAfterBracket, ArrayOfVoid, Unrecognised}
 use Rattle.strict.specs.Declared.{bracketed, WrongType, ended, deep, nameless, unended, closed, voids, strange}
 use Rattle.strict.specs.Records.{letterOf, nameStart, nameLength, recordOf, returnRecord}
 

@@ -16,14 +16,14 @@ use Rattle.jvms.specs.Descriptor.{FieldType, ReturnType, void, typed, MethodTyp
 use Rattle.jvms.specs.Descriptor.{render, renderReturn, renderAll, renderMethod}
 use Rattle.jvms.specs.Descriptor.{WellFormed, AllWellFormed, WellFormedReturn, WellFormedMethod}
 use Rattle.jvms.proofs.Rendering.{render-method-injective}
-use Rattle.jtype.specs.Refusal.{numberOf}
-use Rattle.jtype.specs.declared.Refusal.{Refusal}
-use Rattle.jtype.specs.declared.Refusal.the-variants.{LoneClose, TrailingAfterType, MissingOpening, VoidParameter}
-use Rattle.jtype.specs.declared.Refusal.the-variants.{MissingReturn, TrailingAfterMethod, NoRoom}
-use Rattle.jdescriptor.specs.Reading.{Reading, types, refused, typeReading, methodReading}
+use Rattle.refusal.specs.Refusal.{numberOf}
+use Rattle.refusal.specs.declared.Refusal.{Refusal}
+use Rattle.refusal.specs.declared.Refusal.the-variants.{LoneClose, TrailingAfterType, MissingOpening, VoidParameter}
+use Rattle.refusal.specs.declared.Refusal.the-variants.{MissingReturn, TrailingAfterMethod, NoRoom}
+use Rattle.judging.specs.Reading.{Reading, types, refused, typeReading, methodReading}
 use Rattle.jdescriptor.specs.Answer.{numbersOf, answer, written, IsTypes}
-use Rattle.jdescriptor.specs.declared.Answer.{Answer}
-use Rattle.jdescriptor.specs.declared.Answer.the-variants.{Types, Refused}
+use Rattle.judging.specs.declared.Answer.{Answer}
+use Rattle.judging.specs.declared.Answer.the-variants.{Types, Refused}
 use Rattle.strict.specs.Declared.{wrongType, lone, typeTrails, unopened, wrongParameter}
 use Rattle.strict.specs.Declared.{voidParameter, wrongReturn, secondClose, methodTrails, TypeMeans, MethodMeans}
 use Rattle.strict.specs.Declared.{Outcome, fits, tooSmall, refuses, Declared, MethodDeclared, TypeDeclared}

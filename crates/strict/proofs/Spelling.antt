@@ -13,7 +13,7 @@ use Rattle.jvms.specs.Descriptor.{BaseType, byte, char, double, float, int, lon
 use Rattle.jvms.specs.Descriptor.{FieldType, base, class, array, ReturnType, void, typed, MethodType}
 use Rattle.jvms.specs.Descriptor.{render, renderReturn, renderAll, renderMethod}
 use Rattle.jtype.specs.declared.TypeRecord.{TypeRecord}
-use Rattle.jdescriptor.specs.Reading.{types}
+use Rattle.judging.specs.Reading.{types}
 use Rattle.strict.specs.Declared.{SpelledBack}
 use Rattle.strict.specs.Records.{recordOf, returnRecord, recordsAt, methodRecords, nameIn, spelled, spelledFrom}
 use Rattle.strict.specs.Records.{spelledMethod}

@@ -13,9 +13,9 @@ use Rattle.jvms.specs.Descriptor.{BaseType, byte, char, double, float, int, lon
 use Rattle.jvms.specs.Descriptor.{FieldType, base, class, array, ReturnType, void, typed, render, renderReturn, dimensions}
 use Rattle.jvms.specs.Descriptor.{NoSemicolon, Named, WellFormedReturn}
 use Rattle.jtype.specs.OneType.{isBase}
-use Rattle.jtype.specs.declared.Refusal.{Refusal}
-use Rattle.jtype.specs.declared.Refusal.the-variants.{UnexpectedEnd, TooManyDimensions, EmptyClassName, MissingSemicolon}
-use Rattle.jtype.specs.declared.Refusal.the-variants.{CloseAfterBracket, ArrayOfVoid, Unrecognised}
+use Rattle.refusal.specs.declared.Refusal.{Refusal}
+use Rattle.refusal.specs.declared.Refusal.the-variants.{UnexpectedEnd, TooManyDimensions, EmptyClassName, MissingSemicolon}
+use Rattle.refusal.specs.declared.Refusal.the-variants.{CloseAfterBracket, ArrayOfVoid, Unrecognised}
 use Rattle.strict.specs.Declared.{bracketed, WrongType, ended, deep, nameless, unended, closed, voids, strange}
 use Rattle.strict.proofs.Computes.{Stops, base-is}
 

@@ -18,12 +18,12 @@ use Rattle.jvms.specs.Descriptor.{AllWellFormed, WellFormedReturn, WellFormedMe
 use Rattle.jtype.specs.OneType.{typeIn, typeAt}
 use Rattle.jtype.specs.declared.Next.{Next}
 use Rattle.jtype.specs.declared.Next.the-variants.{Is, Close, Refused}
-use Rattle.jtype.specs.declared.Refusal.{Refusal}
-use Rattle.jtype.specs.declared.Refusal.the-variants.{LoneClose, TrailingAfterType, MissingOpening, VoidParameter}
-use Rattle.jtype.specs.declared.Refusal.the-variants.{MissingReturn, TrailingAfterMethod}
+use Rattle.refusal.specs.declared.Refusal.{Refusal}
+use Rattle.refusal.specs.declared.Refusal.the-variants.{LoneClose, TrailingAfterType, MissingOpening, VoidParameter}
+use Rattle.refusal.specs.declared.Refusal.the-variants.{MissingReturn, TrailingAfterMethod}
 use Rattle.jtype.specs.declared.TypeRecord.{TypeRecord}
-use Rattle.jdescriptor.specs.Reading.{Reading, types, refused, after, lastType, typeReading, returnAt, parameter}
-use Rattle.jdescriptor.specs.Reading.{parametersAt, methodReading}
+use Rattle.judging.specs.Reading.{Reading, types, refused, after, lastType, typeReading, returnAt, parameter}
+use Rattle.judging.specs.Reading.{parametersAt, methodReading}
 use Rattle.strict.specs.Declared.{WrongType, wrongType, lone, typeTrails, Unopened, unopened, wrongParameter}
 use Rattle.strict.specs.Declared.{voidParameter, wrongReturn, secondClose, methodTrails, TypeMeans, MethodMeans}
 use Rattle.strict.specs.Records.{letterOf, recordOf, returnRecord, recordsAt, methodRecords}

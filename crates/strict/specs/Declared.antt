@@ -12,17 +12,17 @@ use Rattle.basics.specs.Parts.{overlaid}
 use Rattle.jvms.specs.Descriptor.{BaseType, FieldType, ReturnType, MethodType}
 use Rattle.jvms.specs.Descriptor.{letter, render, renderAll, renderReturn, renderMethod}
 use Rattle.jvms.specs.Descriptor.{NoSemicolon, WellFormed, AllWellFormed, WellFormedReturn, WellFormedMethod}
-use Rattle.jtype.specs.Refusal.{numberOf}
-use Rattle.jtype.specs.declared.Refusal.{Refusal}
-use Rattle.jtype.specs.declared.Refusal.the-variants.{UnexpectedEnd, TooManyDimensions, LoneClose, TrailingAfterType}
-use Rattle.jtype.specs.declared.Refusal.the-variants.{EmptyClassName, MissingSemicolon, CloseAfterBracket, ArrayOfVoid}
-use Rattle.jtype.specs.declared.Refusal.the-variants.{Unrecognised, MissingOpening, VoidParameter, MissingReturn}
-use Rattle.jtype.specs.declared.Refusal.the-variants.{TrailingAfterMethod, NoRoom}
+use Rattle.refusal.specs.Refusal.{numberOf}
+use Rattle.refusal.specs.declared.Refusal.{Refusal}
+use Rattle.refusal.specs.declared.Refusal.the-variants.{UnexpectedEnd, TooManyDimensions, LoneClose, TrailingAfterType}
+use Rattle.refusal.specs.declared.Refusal.the-variants.{EmptyClassName, MissingSemicolon, CloseAfterBracket, ArrayOfVoid}
+use Rattle.refusal.specs.declared.Refusal.the-variants.{Unrecognised, MissingOpening, VoidParameter, MissingReturn}
+use Rattle.refusal.specs.declared.Refusal.the-variants.{TrailingAfterMethod, NoRoom}
 use Rattle.jtype.specs.declared.TypeRecord.{TypeRecord}
-use Rattle.jdescriptor.specs.Reading.{Reading, types, refused, typeReading, methodReading}
+use Rattle.judging.specs.Reading.{Reading, types, refused, typeReading, methodReading}
 use Rattle.jdescriptor.specs.Answer.{numbersOf, answer, written, IsTypes}
-use Rattle.jdescriptor.specs.declared.Answer.{Answer}
-use Rattle.jdescriptor.specs.declared.Answer.the-variants.{Types, Refused}
+use Rattle.judging.specs.declared.Answer.{Answer}
+use Rattle.judging.specs.declared.Answer.the-variants.{Types, Refused}
 use Rattle.strict.specs.Records.{methodRecords, returnRecord, spelled, spelledMethod}
 
 -- ---- what is wrong where a type is due

@@ -12,15 +12,16 @@ use Rattle.basics.proofs.Bytes.{all-below}
 use Rattle.basics.proofs.Every.{every, every-at}
 use Rattle.jvms.specs.Descriptor.{long, base, render, renderReturn, renderAll, renderMethod, WellFormed, WellFormedMethod}
 use Rattle.jvms.specs.Format.{formatOf}
-use Rattle.bytecode.specs.Length.{bytesOf, fixedLength, within, lengthOf}
-use Rattle.leader.specs.Greatest.{upTo, greatest}
+use Rattle.bytecode.specs.Length.{bytesOf, within, lengthOf}
+use Rattle.fixed.specs.Fixed.{fixedLength}
+use Rattle.greatest.specs.Greatest.{upTo, greatest}
 use Rattle.leader.specs.Scan.{scanFrom, instructions, scanCount, leadersOf, answered, blockLeader}
 use Rattle.branch.specs.Branch.{branchOf}
 use Rattle.leader.specs.Targets.{leadersAt}
 use Rattle.leader.specs.declared.Scan.the-variants.{Leader}
 use Rattle.descriptor.specs.Readers.{slotsOf, judged, parameters, closing, slotsBehind, returnSlots, fieldSlots}
-use Rattle.descriptor.specs.Search.{firstIn, firstFrom}
-use Rattle.descriptor.specs.Types.{brackets, typeBehind, fieldTypeAt, typeSlots, typesFrom, typesAt, typesOf}
+use Rattle.fieldtype.specs.Search.{firstIn, firstFrom}
+use Rattle.fieldtype.specs.Types.{brackets, typeBehind, fieldTypeAt, typeSlots, typesFrom, typesAt, typesOf}
 use Rattle.descriptors.specs.Lenient.{occurs}
 use Rattle.items.specs.Number.{numberFrom, numberAt}
 use Rattle.items.specs.Text.{textAt, textPart, afterText, descriptorOf}

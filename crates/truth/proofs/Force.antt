@@ -11,7 +11,7 @@ use Rattle.jvms.specs.Extent.{extentAt}
 use Rattle.jvms.specs.Format.{formatOf}
 use Rattle.jvms.specs.Machine.{Pool, State, ran}
 use Rattle.jvms.specs.Stack.{entryOf}
-use Rattle.bytecode.specs.Length.{fixedLength}
+use Rattle.fixed.specs.Fixed.{fixedLength}
 use Rattle.effects.specs.Rows.{rowOf}
 use Rattle.block.specs.Room.{completedFrom, completed, blockWalk, cellsOf}
 use Rattle.cell.specs.Cell.{cellOf}

@@ -10,7 +10,7 @@ use lib.ListN.{length, take, replicate}
 use borrow.Author.Tests.{leb-true}
 use Rattle.basics.specs.Bytes.{byteAt}
 use Rattle.basics.specs.Choice.{pick}
-use Rattle.bytecode.specs.Length.{fixedLength}
+use Rattle.fixed.specs.Fixed.{fixedLength}
 use Rattle.effects.specs.Lookup.{Lookup}
 use Rattle.effects.specs.Rows.{Row}
 use Rattle.block.specs.Walk.{Reason, pastEnd, tooLarge, tooFew, Marks, Push, blanks, load, carried, unread, does, effectBy}

@@ -11,7 +11,8 @@ use Rattle.basics.specs.Bytes.{byteAt}
 use Rattle.jvms.specs.Extent.{Extent, takes, extentAt}
 use Rattle.jvms.specs.Machine.{State, citedAt, sizeOf, below, topmost, replaced, results, next}
 use Rattle.jvms.specs.Stack.{objectref, reference, _⇒_, does, Cited, Form, Entry, entryOf}
-use Rattle.bytecode.specs.Length.{fixedLength, lengthOf}
+use Rattle.fixed.specs.Fixed.{fixedLength}
+use Rattle.bytecode.specs.Length.{lengthOf}
 use Rattle.bytecode.specs.declared.Measure.the-variants.{Length}
 use Rattle.bytecode.proofs.Measuring.{fits}
 use Rattle.lengths.proofs.Agree.{jvms-length}

@@ -5,7 +5,8 @@ use mathlib.Core.List.{List, [], _∷_, _++_}
 use lib.ListN.{getD}
 use Rattle.basics.specs.Ascii.{ascii}
 use Rattle.items.specs.Text.{classOf, nameOf, descriptorOf}
-use Rattle.names.specs.Names.{className, parameterNames}
+use Rattle.classname.specs.ClassName.{className}
+use Rattle.names.specs.Names.{parameterNames}
 
 -- "T is int, long, float, double, object, byte, char, short in opcode order."
 unfoldable pub elementText : ℕ → List ℕ

@@ -43,7 +43,7 @@ pub fn put_array_at(out: &mut [u8], at: usize, words: &[u8], element: usize) -> 
 pub fn put_method_at(out: &mut [u8], at: usize, texts: &[u8]) -> usize
     ensures { λ r. ⌜ Written at (methodText (now (texts .entry))) (now (out .entry)) r (now (out .exit)) ⌝ }
 {
-    let dot = names::put_class_at(out, at, items::class_of(texts));
+    let dot = classname::put_class_at(out, at, items::class_of(texts));
     let name = put_at(out, dot, b".");
     put_at(out, name, items::name_of(texts))
 }

@@ -8,10 +8,10 @@ use lib.ListN.{length}
 use borrow.Author.Needs.{needs}
 use Rattle.basics.specs.Choice.{pick}
 use Rattle.descriptor.specs.Readers.{startingAt, parameterAt}
-use Rattle.descriptor.specs.Types.{fieldTypeAt, takenInside, Inside, one, typesAt, typesOf}
-use Rattle.descriptor.specs.declared.Taken.{Taken}
-use Rattle.descriptor.specs.declared.Taken.the-variants.{Field}
-use Rattle.descriptor.proofs.Bounds.{taken-inside}
+use Rattle.fieldtype.specs.Types.{fieldTypeAt, takenInside, Inside, one, typesAt, typesOf}
+use Rattle.fieldtype.specs.declared.Taken.{Taken}
+use Rattle.fieldtype.specs.declared.Taken.the-variants.{Field}
+use Rattle.fieldtype.proofs.Bounds.{taken-inside}
 use Rattle.descriptor.proofs.Listing.{list-past, list-closed, list-unread, list-one, one-or-two}
 use Rattle.descriptor.proofs.Turns.{found-now, found-on, none-over, none-unread}
 use Rattle.descriptor.proofs.parameter_at.Statement.{statement}

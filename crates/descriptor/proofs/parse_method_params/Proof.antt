@@ -7,11 +7,11 @@ use lib.ListN.{length}
 use borrow.Author.Needs.{needs}
 use borrow.Author.Tests.{eq-eqb, ne-eqb}
 use Rattle.descriptor.specs.Readers.{parameters}
-use Rattle.descriptor.specs.Types.{fieldTypeAt, takenInside, Inside, one, typesAt, typesOf}
-use Rattle.descriptor.specs.declared.Taken.{Taken}
-use Rattle.descriptor.specs.declared.Taken.the-variants.{Field}
+use Rattle.fieldtype.specs.Types.{fieldTypeAt, takenInside, Inside, one, typesAt, typesOf}
+use Rattle.fieldtype.specs.declared.Taken.{Taken}
+use Rattle.fieldtype.specs.declared.Taken.the-variants.{Field}
 use Rattle.basics.proofs.Bytes.{byte-past}
-use Rattle.descriptor.proofs.Bounds.{taken-inside}
+use Rattle.fieldtype.proofs.Bounds.{taken-inside}
 use Rattle.descriptor.proofs.Listing.{list-past, list-closed, list-unread, list-one, one-or-two}
 use Rattle.descriptor.proofs.Turns.{callFrom, call-first, call-turn, call-ends, call-stops}
 use Rattle.descriptor.proofs.parse_method_params.Statement.{statement}

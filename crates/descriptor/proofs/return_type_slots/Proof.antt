@@ -5,10 +5,10 @@ use mathlib.Core.Path.{_≡_, _∙_, sym, subst}
 use borrow.Author.Needs.{needs}
 use borrow.Author.Tests.{le-leb, lt-leb, eq-eqb, ne-eqb}
 use Rattle.descriptor.specs.Readers.{closing, slotsBehind, returnSlots}
-use Rattle.descriptor.specs.Search.{firstFrom, foundInside}
-use Rattle.descriptor.specs.declared.Found.{Found}
-use Rattle.descriptor.specs.declared.Found.the-variants.{At}
-use Rattle.descriptor.proofs.Bounds.{found-inside}
+use Rattle.fieldtype.specs.Search.{firstFrom, foundInside}
+use Rattle.fieldtype.specs.declared.Found.{Found}
+use Rattle.fieldtype.specs.declared.Found.the-variants.{At}
+use Rattle.fieldtype.proofs.Bounds.{found-inside}
 use Rattle.descriptor.proofs.return_type_slots.Statement.{statement}
 use Rattle.descriptor.proofs.return_type_slots.Tie as tie
 

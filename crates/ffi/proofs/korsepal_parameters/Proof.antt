@@ -7,7 +7,7 @@ use lib.ListN.{length}
 use denote.Ref.{now}
 use borrow.Author.Needs.{needs}
 use Rattle.answer.proofs.Writing as writing
-use Rattle.ffi.specs.Numbers.{listNumbers}
+use Rattle.structs.specs.Structs.{listNumbers}
 use Rattle.answer.specs.Answer.{numbered}
 use Rattle.ffi.proofs.korsepal_parameters.Statement.{statement}
 use Rattle.ffi.proofs.korsepal_parameters.Tie as tie

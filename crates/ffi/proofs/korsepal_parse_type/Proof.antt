@@ -2,7 +2,7 @@
 -- Assumes nothing.
 use mathlib.Core.Path.{ap, _∙_}
 use borrow.Author.Needs.{needs}
-use Rattle.ffi.specs.Numbers.{strictNumbers}
+use Rattle.structs.specs.Structs.{strictNumbers}
 use Rattle.ffi.proofs.korsepal_parse_type.Statement.{statement}
 use Rattle.ffi.proofs.korsepal_parse_type.Tie as tie
 

@@ -2,7 +2,7 @@
 -- Assumes nothing.
 use mathlib.Core.Path.{ap, _∙_}
 use borrow.Author.Needs.{needs}
-use Rattle.ffi.specs.Numbers.{reportNumbers}
+use Rattle.structs.specs.Structs.{reportNumbers}
 use Rattle.ffi.proofs.korsepal_report.Statement.{statement}
 use Rattle.ffi.proofs.korsepal_report.Tie as tie
 

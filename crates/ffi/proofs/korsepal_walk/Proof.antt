@@ -3,7 +3,7 @@
 use mathlib.Core.Path.{_∙_, sym, ap, refl}
 use borrow.Author.Needs.{needs}
 use Rattle.casefile.specs.Parts.{partsOf}
-use Rattle.ffi.specs.Numbers.{walkNumbers}
+use Rattle.structs.specs.Structs.{walkNumbers}
 use Rattle.casefile.specs.Whole.{numbered}
 use Rattle.ffi.proofs.korsepal_walk.Statement.{statement}
 use Rattle.ffi.proofs.korsepal_walk.Tie as tie

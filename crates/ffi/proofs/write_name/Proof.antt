@@ -7,7 +7,7 @@ use lib.ListN.{length}
 use denote.Ref.{now}
 use borrow.Author.Needs.{needs}
 use Rattle.answer.proofs.Writing as writing
-use Rattle.ffi.specs.Numbers.{nameNumbers}
+use Rattle.structs.specs.Structs.{nameNumbers}
 use Rattle.answer.specs.Answer.{numbered}
 use Rattle.ffi.proofs.write_name.Statement.{statement}
 use Rattle.ffi.proofs.write_name.Tie as tie

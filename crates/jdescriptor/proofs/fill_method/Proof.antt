@@ -7,9 +7,9 @@ use lib.ListN.{length}
 use borrow.Author.Needs.{needs}
 use Rattle.basics.specs.Parts.{overlaid}
 use Rattle.jdescriptor.specs.Answer.{numbersOf, recordsOf}
-use Rattle.jdescriptor.specs.Reading.{parametersAt, methodReading}
+use Rattle.judging.specs.Reading.{parametersAt, methodReading}
 use Rattle.jdescriptor.proofs.Filling.{Filling, fits, filled, at-close, never-refused, begun}
-use Rattle.jdescriptor.proofs.Judging.{Enough, enough-more, type-ends, close-inside}
+use Rattle.judging.proofs.Judging.{Enough, enough-more, type-ends, close-inside}
 use Rattle.jdescriptor.proofs.fill_method.Statement.{statement}
 use Rattle.jdescriptor.proofs.fill_method.Tie as tie
 

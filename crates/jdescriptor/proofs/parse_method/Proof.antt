@@ -3,8 +3,8 @@
 use native.Mathlib.Omega.{arith}
 use mathlib.Core.Path.{_∙_, sym}
 use borrow.Author.Needs.{needs}
-use Rattle.jdescriptor.specs.Reading.{methodReading}
-use Rattle.jdescriptor.proofs.Judging.{accepted, too-small, fitting, turned-down}
+use Rattle.judging.specs.Reading.{methodReading}
+use Rattle.jdescriptor.proofs.Answering.{accepted, too-small, fitting, turned-down}
 use Rattle.jdescriptor.proofs.parse_method.Statement.{statement}
 use Rattle.jdescriptor.proofs.parse_method.Tie as tie
 

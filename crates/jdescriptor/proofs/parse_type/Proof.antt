@@ -4,7 +4,7 @@ use mathlib.Core.Path.{_∙_, sym}
 use borrow.Author.Needs.{needs}
 use borrow.Author.Tests.{lt-ltb, le-ltb}
 use Rattle.jdescriptor.specs.Answer.{numbersOf, answer, written}
-use Rattle.jdescriptor.specs.Reading.{typeReading}
+use Rattle.judging.specs.Reading.{typeReading}
 use Rattle.jdescriptor.proofs.parse_type.Statement.{statement}
 use Rattle.jdescriptor.proofs.parse_type.Tie as tie
 

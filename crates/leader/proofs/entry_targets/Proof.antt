@@ -4,8 +4,9 @@ use Prim.Native.Nat.{_+_, _*_, max, _≤_}
 use native.Mathlib.Omega.{arith}
 use mathlib.Core.Path.{_≡_, refl, _∙_}
 use lib.ListN.{length}
-use Rattle.leader.specs.Greatest.{greatest}
-use Rattle.leader.specs.Targets.{target, entryTargets}
+use Rattle.greatest.specs.Greatest.{greatest}
+use Rattle.greatest.specs.Greatest.{target}
+use Rattle.leader.specs.Targets.{entryTargets}
 use Rattle.leader.proofs.Greatest.{no-entries, one-entry, one-step-less}
 use Rattle.leader.proofs.entry_targets.Statement.{statement}
 use Rattle.leader.proofs.entry_targets.Tie as tie

@@ -6,7 +6,7 @@ use mathlib.Core.Path.{_≡_, refl, sym, _∙_}
 use borrow.Author.Needs.{needs}
 use Rattle.basics.specs.Bytes.{byteAt}
 use Rattle.bytecode.specs.Length.{tableEntries, lookupPairs, tableBytes, lookupBytes}
-use Rattle.leader.specs.Greatest.{greatest}
+use Rattle.greatest.specs.Greatest.{greatest}
 use Rattle.branch.specs.Branch.{branchOf}
 use Rattle.branch.specs.declared.Branch.the-variants.{Near, Far, Table, Lookup, Ends}
 use Rattle.leader.proofs.OfBranch.{table-bytes, lookup-bytes, plain, up-to-next}

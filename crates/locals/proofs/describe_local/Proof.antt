@@ -5,8 +5,9 @@ use native.Mathlib.Omega.{arith}
 use mathlib.Core.Path.{_∙_, sym, subst}
 use lib.ListN.{length}
 use borrow.Author.Needs.{needs}
-use Rattle.locals.specs.Name.{nameInside, localName}
-use Rattle.locals.specs.declared.NamePlace.{NamePlace}
+use Rattle.search.specs.Search.{nameInside}
+use Rattle.locals.specs.Name.{localName}
+use Rattle.search.specs.declared.NamePlace.{NamePlace}
 use Rattle.locals.proofs.describe_local.Statement.{statement}
 use Rattle.locals.proofs.describe_local.Tie as tie
 

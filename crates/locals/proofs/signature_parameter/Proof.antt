@@ -8,11 +8,11 @@ use lib.ListN.{length, take, drop, length-drop}
 use lib.Seq.{take-all}
 use borrow.Author.Needs.{needs}
 use Rattle.descriptor.specs.Readers.{parameterAt}
-use Rattle.descriptor.specs.Search.{firstFrom, foundInside}
-use Rattle.descriptor.specs.declared.Found.{Found}
-use Rattle.descriptor.specs.declared.Found.the-variants.{At}
+use Rattle.fieldtype.specs.Search.{firstFrom, foundInside}
+use Rattle.fieldtype.specs.declared.Found.{Found}
+use Rattle.fieldtype.specs.declared.Found.the-variants.{At}
 use Rattle.locals.specs.Name.{signatureParameter}
-use Rattle.descriptor.proofs.Bounds.{found-inside}
+use Rattle.fieldtype.proofs.Bounds.{found-inside}
 use Rattle.locals.proofs.signature_parameter.Statement.{statement}
 use Rattle.locals.proofs.signature_parameter.Tie as tie
 

@@ -7,11 +7,11 @@ use lib.ListN.{length, take}
 use lib.Seq.{length-take-le}
 use borrow.Author.Needs.{needs}
 use Rattle.basics.specs.Ascii.{ascii}
-use Rattle.descriptor.specs.Search.{firstFrom, foundInside}
-use Rattle.descriptor.specs.declared.Found.{Found}
-use Rattle.descriptor.specs.declared.Found.the-variants.{At}
+use Rattle.fieldtype.specs.Search.{firstFrom, foundInside}
+use Rattle.fieldtype.specs.declared.Found.{Found}
+use Rattle.fieldtype.specs.declared.Found.the-variants.{At}
 use Rattle.names.specs.Names.{baseName}
-use Rattle.descriptor.proofs.Bounds.{found-inside}
+use Rattle.fieldtype.proofs.Bounds.{found-inside}
 use Rattle.text.proofs.Writing.{written-none}
 use Rattle.names.proofs.put_base_name.Statement.{statement}
 use Rattle.names.proofs.put_base_name.Tie as tie

@@ -5,10 +5,10 @@ use native.Mathlib.Omega.{arith}
 use mathlib.Core.Path.{_≡_, refl, _∙_, sym, subst}
 use lib.ListN.{length}
 use borrow.Author.Needs.{needs}
-use Rattle.descriptor.specs.Types.{fieldTypeAt, takenInside, Inside, one}
-use Rattle.descriptor.specs.declared.Taken.{Taken}
-use Rattle.descriptor.specs.declared.Taken.the-variants.{Field}
-use Rattle.descriptor.proofs.Bounds.{taken-inside}
+use Rattle.fieldtype.specs.Types.{fieldTypeAt, takenInside, Inside, one}
+use Rattle.fieldtype.specs.declared.Taken.{Taken}
+use Rattle.fieldtype.specs.declared.Taken.the-variants.{Field}
+use Rattle.fieldtype.proofs.Bounds.{taken-inside}
 use Rattle.descriptor.proofs.Listing.{list-past, list-closed, list-unread, list-one}
 use Rattle.names.proofs.Left.{SoFar, at-first, one-more, over-now, unread-now}
 use Rattle.text.proofs.Writing.{written-length}

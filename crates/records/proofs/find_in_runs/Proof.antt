@@ -6,8 +6,8 @@ use mathlib.Core.Path.{_≡_, refl, _∙_, sym, ap}
 use lib.ListN.{getD}
 use borrow.Author.Needs.{needs}
 use Rattle.tables.specs.LocalRecord.{recordsIn}
-use Rattle.locals.specs.Name.{firstMatch}
-use Rattle.locals.proofs.Search.{none-left}
+use Rattle.search.specs.Search.{firstMatch}
+use Rattle.search.proofs.Search.{none-left}
 use Rattle.records.specs.Run.{blank}
 use Rattle.records.proofs.Eights.{name-found, search-ends, search-goes-on}
 use Rattle.records.proofs.Within.{answered}

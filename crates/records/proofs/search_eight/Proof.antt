@@ -47,10 +47,10 @@ use denote.Triple.Spec.{Meets, tripleOf}
 use denote.Triple.Table.{entered, cited}
 use denote.Triple.Walked.{says, Stays, stay-none, walkOf, goes-none, Walks, ends-at, walked, walk-meets}
 use denote.Exit.{yes}
-use Rattle.locals.specs.Name.{firstMatch}
-use Rattle.locals.specs.declared.NamePlace.{NamePlace}
-use Rattle.locals.proofs.NamePlace as N
-use Rattle.locals.proofs.NamePlace.Laws as N′
+use Rattle.search.specs.Search.{firstMatch}
+use Rattle.search.specs.declared.NamePlace.{NamePlace}
+use Rattle.search.proofs.NamePlace as N
+use Rattle.search.proofs.NamePlace.Laws as N′
 use Rattle.records.specs.Run.{viewedAll}
 use Rattle.records.specs.declared.LocalRecord.{LocalRecord}
 use Rattle.records.proofs.Machine.{vals}

@@ -52,11 +52,11 @@ use denote.Triple.Table.{entered, cited}
 use denote.Triple.Walked.{says, Stays, stay-none, stay-none-slice, walkOf, goes-none, goes-none-slice, Walks, ends-at, walked}
 use denote.Triple.Walked.{walk-meets}
 use denote.Exit.{yes}
-use Rattle.locals.specs.Name.{firstMatch}
-use Rattle.locals.specs.declared.NamePlace.{NamePlace}
-use Rattle.locals.specs.declared.NamePlace.the-variants.{Unnamed}
-use Rattle.locals.proofs.NamePlace as N
-use Rattle.locals.proofs.NamePlace.Laws as N′
+use Rattle.search.specs.Search.{firstMatch}
+use Rattle.search.specs.declared.NamePlace.{NamePlace}
+use Rattle.search.specs.declared.NamePlace.the-variants.{Unnamed}
+use Rattle.search.proofs.NamePlace as N
+use Rattle.search.proofs.NamePlace.Laws as N′
 use Rattle.records.specs.Run.{viewed, viewedAll, orElse, blank}
 use Rattle.records.specs.declared.LocalRecord.{LocalRecord}
 use Rattle.records.proofs.Search.{foundFrom, found-next, found-over}
