@@ -1,13 +1,13 @@
 -- The leaders that one instruction gives (document 01, "Leaders").
 -- Assumes nothing.
-use Prim.Native.Nat.{ℕ, zero, suc, _+_, _-_, _^_}
+use Prim.Native.Nat.{ℕ, zero, suc, _+_, _^_}
 use mathlib.Core.List.{List, [], _∷_, _++_}
-use lib.Dec.{eqb, ltb}
 use Rattle.basics.specs.Bytes.{byteAt}
 use Rattle.basics.specs.Choice.{pick, oneOf, between}
 use Rattle.bytecode.specs.Length.{operandsAt, tableEntries, lookupPairs}
 use Rattle.reads.specs.Signed.{i16At, i32At}
 use Rattle.branch.specs.Branch.{branchOf}
+use Rattle.greatest.specs.Greatest.{target}
 use Rattle.branch.specs.declared.Branch.{Branch}
 use Rattle.branch.specs.declared.Branch.the-variants.{Near, Far, Table, Lookup, Ends, Plain}
 
