@@ -26,8 +26,8 @@ use Rattle.casefile.specs.Text.{textAt}
 use Rattle.casefile.specs.Whole.{tablesAt, placesIn, caseOf}
 use Rattle.effects.specs.Depth.{ruleOf, depthOf}
 use Rattle.effects.specs.Rows.{rowOf}
-use Rattle.block.specs.Room.{completedFrom, completed, blockWalk}
-use Rattle.block.specs.Walk.{step, walkFrom, walk}
+use Rattle.walk.specs.Room.{completedFrom, completed, blockWalk}
+use Rattle.walk.specs.Walk.{step, walkFrom, walk}
 use Rattle.fault.specs.Decoding.{actionOf, decoded}
 use Rattle.locals.specs.Name.{firstMatch, signatureParameter, numberedName, localName}
 use Rattle.message.specs.Message.{actionText, causeText, messageText}

@@ -3,10 +3,10 @@
 use Prim.Native.Nat.{ℕ, _-_, _^_, min}
 use mathlib.Core.List.{List}
 use lib.ListN.{replicate}
-use Rattle.block.specs.Room.{Roomed, blockWalk, answerOf, cellsOf}
-use Rattle.block.specs.declared.Walk.{Walk}
-use Rattle.block.specs.declared.Walk.the-variants.{Done, Failed}
-use Rattle.block.specs.declared.Walk.the-variants as walk
+use Rattle.walk.specs.Room.{Roomed, blockWalk, answerOf, cellsOf}
+use Rattle.walk.specs.declared.Walk.{Walk}
+use Rattle.walk.specs.declared.Walk.the-variants.{Done, Failed}
+use Rattle.walk.specs.declared.Walk.the-variants as walk
 use Rattle.bytecode.specs.declared.Measure.{Measure}
 use Rattle.bytecode.specs.declared.Measure.the-variants.{Length, NoLength}
 use Rattle.casefile.specs.Parts.{Parts, partsOf}

@@ -1,5 +1,4 @@
 // The C interface of the library: numbers and slices in, structs of numbers out. Every function takes any input.
-use block::Walk;
 use bytecode::Measure;
 use casefile::Case;
 use casefile::part_at;
@@ -9,6 +8,7 @@ use descriptor::Slots;
 use jdescriptor::Answer;
 use leader::Scan;
 use report::Report;
+use walk::Walk;
 ghost use mathlib.Core.Path.{_≡_};
 ghost use mathlib.Core.List.{[]};
 ghost use Prim.Native.Nat.{_-_, _^_, min};

@@ -1,5 +1,4 @@
 // The report of a case (document 01, "Numbers returned"): the case is read, then reported on by its parts.
-use block::Walk;
 use casefile::Case;
 use casefile::part_at;
 use cell::Slot;
@@ -8,13 +7,14 @@ use fault::Action;
 use fault::Fault;
 use leader::Scan;
 use message::put_message_at;
+use walk::Walk;
 ghost use Prim.Native.Nat.{_-_, _≤_};
 ghost use mathlib.Core.Path.{_≡_};
 ghost use lib.Dec.{ltb};
 ghost use lib.ListN.{length, getD, replicate};
 ghost use Rattle.basics.specs.Choice.{pick};
 ghost use Rattle.cell.specs.Cell.{unpacked};
-ghost use Rattle.block.specs.Room.{blockWalk};
+ghost use Rattle.walk.specs.Room.{blockWalk};
 ghost use Rattle.cell.specs.declared.Slot.the-variants.{Other};
 ghost use Rattle.message.specs.Message.{messageText};
 ghost use Rattle.report.specs.Report.{isInstance, kindOf, partsBy, said, saidOf, answerBy, outputBy, reportOf, reportedIn};

@@ -28,8 +28,8 @@ use Rattle.casefile.specs.Whole.{tablesAt, placesIn, caseOf}
 use Rattle.effects.specs.Depth.{ruleOf, depthOf}
 use Rattle.effects.specs.Lookup.{lookupIn}
 use Rattle.effects.specs.Rows.{rowOf}
-use Rattle.block.specs.Room.{completedFrom, completed, blockWalk}
-use Rattle.block.specs.Walk.{step, walkFrom, walk}
+use Rattle.walk.specs.Room.{completedFrom, completed, blockWalk}
+use Rattle.walk.specs.Walk.{step, walkFrom, walk}
 use Rattle.fault.specs.Decoding.{actionOf, constructs, decoded}
 use Rattle.locals.specs.Name.{firstMatch, signatureParameter, numberedName, localName}
 use Rattle.message.specs.Message.{methodText, invokeText, actionText, causeText, messageText}

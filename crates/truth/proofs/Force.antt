@@ -11,9 +11,9 @@ use Rattle.jvms.specs.Machine.{Pool, State, ran}
 use Rattle.jvms.specs.Stack.{entryOf}
 use Rattle.bytecode.specs.Length.{fixedLength}
 use Rattle.effects.specs.Rows.{rowOf}
-use Rattle.block.specs.Room.{completedFrom, completed, fits, blockWalk}
+use Rattle.walk.specs.Room.{completedFrom, completed, fits, blockWalk}
 use Rattle.cell.specs.Cell.{cellOf}
-use Rattle.block.specs.Walk.{done, step, walkFrom, walk}
+use Rattle.walk.specs.Walk.{done, step, walkFrom, walk}
 use Rattle.truth.specs.Cause.{HasForce}
 use Rattle.truth.specs.Translation.{since, TrueTranslation}
 
