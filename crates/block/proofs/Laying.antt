@@ -16,8 +16,8 @@ use Rattle.cell.specs.declared.Cell.the-variants.{Held, TooLarge}
 use Rattle.cell.proofs.Laws.{held-so, too-large}
 use Rattle.row.specs.Code.{dupPlaces, dup2Places, swapPlaces}
 use Rattle.block.specs.Inner.{Clean, Laid}
-use Rattle.block.specs.Room.{shown}
-use Rattle.block.specs.Walk.{cells, Push, load, carried, does, refused, Made, made, pushed, applied, tooLarge}
+use Rattle.walk.specs.Room.{shown}
+use Rattle.walk.specs.Walk.{cells, Push, load, carried, does, refused, Made, made, pushed, applied, tooLarge}
 use Rattle.block.specs.declared.Height.the-variants.{Refused, Over, High}
 
 drop-replicate : (j n : ℕ) → drop {A = ℕ} j (replicate n 0) ≡ replicate (n - j) 0

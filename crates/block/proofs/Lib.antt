@@ -1,5 +1,3 @@
-pub mod Answers
-pub mod Effects
 pub mod Laying
 pub mod Looping
 pub mod Stepping

@@ -1,4 +1,4 @@
--- The walk's loop: the walk from an index on is the walk from the leader. Where the loop ends, the contract is met.
+-- The walk's loop, by any table of rows: the walk from an index on is the walk from the leader. Where the loop ends, the contract is met.
 -- Assumes nothing.
 use Prim.Native.Nat.{ℕ, zero, suc, _+_, _-_, _≤_, _<_}
 use native.Mathlib.Nat.{zero-add}
@@ -10,34 +10,35 @@ use lib.Seq.{length-take-le}
 use borrow.Author.Tests.{le-leb}
 use Rattle.basics.specs.Bytes.{AreBytes}
 use Rattle.effects.specs.Lookup.{Lookup, lookupIn}
+use Rattle.effects.specs.Rows.{Row, rowOf}
 use Rattle.block.specs.Inner.{Clean, stepOf, steppedIn, Stepped}
-use Rattle.block.specs.Room.{completed, Roomed, fits, blockWalk, answerOf, shown, cellsOf}
-use Rattle.block.specs.Walk.{Reason, overshot, Outcome, goes, failed, walk}
+use Rattle.walk.specs.Room.{completed, Roomed, fits, blockWalkBy, blockWalk, answerOf, shown, cellsOf, Walks}
+use Rattle.walk.specs.Walk.{Reason, overshot, Outcome, goes, failed, walk}
 use Rattle.block.specs.declared.Step.{Step}
 use Rattle.block.specs.declared.Step.the-variants.{Stops, Lacks, Passes, Goes}
-use Rattle.block.specs.declared.Walk.{Walk}
-use Rattle.block.specs.declared.Walk.the-variants.{Done, Failed, NoRoom}
+use Rattle.walk.specs.declared.Walk.{Walk}
+use Rattle.walk.specs.declared.Walk.the-variants.{Done, Failed, NoRoom}
 use Rattle.block.proofs.Laying.{shown-take, shown-length, clean-shown, all-zero}
 use Rattle.block.proofs.Walking.{onward, at, from, following, turn, ended-at, ended-past, stopped, lacked, passed}
-use Rattle.block.proofs.Walking.{went, kept-stopped, kept-lacked}
+use Rattle.block.proofs.Walking.{Sized, went, kept-stopped, kept-lacked}
 
-module _ (code members : List ℕ) (count leader fault : ℕ) where
+module _ (rows : ℕ → Row) (code members : List ℕ) (count leader fault : ℕ) where
   abbrev lookup : Lookup
   lookup = lookupIn members count
 
   abbrev whole : ℕ → Roomed ℕ
-  whole room = blockWalk code members count leader fault room
+  whole room = blockWalkBy rows code members count leader fault room
 
   -- stack: the cells, whose first so many are the slots
   abbrev pub Inv : ℕ → List ℕ → ℕ → ℕ → ℕ → Type 0
   Inv room stack pc height completed =
       (length stack ≡ room) × Clean stack height
       × ((turns : ℕ) × (fault - pc ≤ turns) × (completed + turns ≡ fault - leader)
-      × (from lookup code fault room turns pc (take height stack) completed ≡ whole room))
+      × (from rows lookup code fault room turns pc (take height stack) completed ≡ whole room))
 
   -- the loop starts at the leader, in cells that are zero
   pub starts : (room : ℕ) (stack : List ℕ) → stack ≡ replicate room 0 → Inv (length stack) stack leader 0 0
-  unfolding blockWalk completed walk
+  unfolding completed walk
   starts room stack e =
       let size : length stack ≡ room = ap length e ∙ length-replicate room 0 in
       let clean : Clean (shown (length stack) []) 0 = clean-shown (length stack) [] (omega arith) in
@@ -50,7 +51,7 @@ module _ (code members : List ℕ) (count leader fault : ℕ) where
   moved :
       (room : ℕ) (left list : List ℕ) (next high completed turns : ℕ) → left ≡ shown room list → high ≡ length list →
       length list ≤ room → fault - next ≤ turns → completed + turns ≡ fault - leader →
-      from lookup code fault room turns next list completed ≡ whole room → Inv room left next high completed
+      from rows lookup code fault room turns next list completed ≡ whole room → Inv room left next high completed
   moved room left list next high completed turns left-is high-is small enough spent e = (
     ap length left-is ∙ shown-length room list small,
     rw (left-is, high-is) (clean-shown room list small),
@@ -59,19 +60,19 @@ module _ (code members : List ℕ) (count leader fault : ℕ) where
 
   module _ (room : ℕ) (stack : List ℕ) (pc height completed : ℕ) (i : Inv room stack pc height completed) where
     abbrev here : Outcome ℕ
-    here = at lookup code fault room pc (take height stack)
+    here = at rows lookup code fault room pc (take height stack)
 
     -- some turns are left
     next-turn :
         (turns : ℕ) → pc < fault → fault - pc ≤ turns →
-        from lookup code fault room turns pc (take height stack) completed ≡ whole room →
-        following lookup code fault room (turns - 1) pc completed here ≡ whole room
+        from rows lookup code fault room turns pc (take height stack) completed ≡ whole room →
+        following rows lookup code fault room (turns - 1) pc completed here ≡ whole room
     next-turn zero short enough e = absurd (omega arith)
     next-turn (suc turns) short enough e =
         let one : suc turns - 1 ≡ turns = omega arith in
-        rw one (sym (turn lookup code fault room turns pc completed (take height stack) short) ∙ e)
+        rw one (sym (turn rows lookup code fault room turns pc completed (take height stack) short) ∙ e)
 
-    told : pc < fault → following lookup code fault room (i .2 .0 - 1) pc completed here ≡ whole room
+    told : pc < fault → following rows lookup code fault room (i .2 .0 - 1) pc completed here ≡ whole room
     told short = next-turn (i .2 .0) short (i .2 .1) (i .2 .3)
 
     sized-so : (answer : Step) → answer ≡ stepOf (length stack) here → answer ≡ stepOf room here
@@ -84,35 +85,35 @@ module _ (code members : List ℕ) (count leader fault : ℕ) where
         l ∙ ap (steppedIn stack) e
         ∙ rw (le-leb (length list) (length stack) (omega (arith, i .0))) (ap (λ (k : ℕ). shown k list) (i .0))
 
-    module _ (bytes : AreBytes code) (short : pc < fault) (left : List ℕ) (next high : ℕ)
+    module _ (sized : Sized rows) (bytes : AreBytes code) (short : pc < fault) (left : List ℕ) (next high : ℕ)
         (s : Stepped stack (Goes next high) left here) where
       pub up : pc < next
       up =
-          let w = went lookup code fault room next high here (sized-so (Goes next high) (s .answers)) in
-          onward lookup code fault pc (take height stack) bytes next (w .0) (w .1)
+          let w = went rows lookup code fault room next high here (sized-so (Goes next high) (s .answers)) in
+          onward rows lookup code fault pc (take height stack) sized bytes next (w .0) (w .1)
 
       pub again : Inv room left next high (completed + 1)
       again =
-          let w = went lookup code fault room next high here (sized-so (Goes next high) (s .answers)) in
+          let w = went rows lookup code fault room next high here (sized-so (Goes next high) (s .answers)) in
           let list : List ℕ = w .0 in
           let left-is : left ≡ shown room list = laid left list next (w .1) (s .leaves) (w .3) in
-          let goes-on : following lookup code fault room (i .2 .0 - 1) pc completed (goes next list) ≡ whole room =
+          let goes-on : following rows lookup code fault room (i .2 .0 - 1) pc completed (goes next list) ≡ whole room =
           rw (w .1) at (told short) in
           moved room left list next high (completed + 1) (i .2 .0 - 1) left-is (w .2) (w .3) (omega (arith, i .2 .1, up))
           (omega (arith, i .2 .1, i .2 .2)) (rw (le-leb (length list) room (w .3)) at goes-on)
 
   -- ---- the contract, where the loop ends. entry: the lent cells; first: these before the first turn
 
-  module _ (entry first : List ℕ) (zeros : first ≡ replicate (length entry) 0) where
-    abbrev Met : List ℕ → Walk → Type 0
-    Met left answer = (answer ≡ answerOf (whole (length entry))) × (left ≡ cellsOf (length entry) (whole (length entry)))
+  abbrev pub Met : List ℕ → List ℕ → Walk → Type 0
+  Met entry left answer = (answer ≡ answerOf (whole (length entry))) × (left ≡ cellsOf (length entry) (whole (length entry)))
 
+  module _ (entry first : List ℕ) (zeros : first ≡ replicate (length entry) 0) where
     same : length first ≡ length entry
     same = ap length zeros ∙ length-replicate (length entry) 0
 
     failed-so :
         (left : List ℕ) (completed : ℕ) (reason : Reason) → whole (length first) ≡ fits (failed completed reason) →
-        left ≡ replicate (length entry) 0 → Met left (Failed completed)
+        left ≡ replicate (length entry) 0 → Met entry left (Failed completed)
     failed-so left completed reason e l = rw (ap whole (sym same) ∙ e) (refl, l)
 
     module _ (stack : List ℕ) (pc height completed : ℕ) (i : Inv (length first) stack pc height completed) where
@@ -128,45 +129,52 @@ module _ (code members : List ℕ) (count leader fault : ℕ) where
             ∙ ap (λ (k : ℕ). replicate k 0) (i .0 ∙ same)
 
         pub ends-stopped :
-            pc < fault → Stepped stack Stops left now → Met (cleared ++ drop height left) (Failed completed)
+            pc < fault → Stepped stack Stops left now → Met entry (cleared ++ drop height left) (Failed completed)
         ends-stopped short s =
-            let t = stopped lookup code fault (length first) (i .2 .0 - 1) pc completed now
+            let t = stopped rows lookup code fault (length first) (i .2 .0 - 1) pc completed now
             (sized-so (length first) stack pc height completed i Stops (s .answers)) in
             failed-so (cleared ++ drop height left) completed (t .0)
             (sym (told (length first) stack pc height completed i short) ∙ t .1)
             (all-cleared (kept-stopped stack left now s))
 
-        pub ends-lacked : pc < fault → Stepped stack Lacks left now → Met (cleared ++ drop height left) (NoRoom pc)
+        pub ends-lacked : pc < fault → Stepped stack Lacks left now → Met entry (cleared ++ drop height left) (NoRoom pc)
         ends-lacked short s =
-            let t = lacked lookup code fault (length first) (i .2 .0 - 1) pc completed now
+            let t = lacked rows lookup code fault (length first) (i .2 .0 - 1) pc completed now
             (sized-so (length first) stack pc height completed i Lacks (s .answers)) in
             rw (ap whole (sym same) ∙ sym (told (length first) stack pc height completed i short) ∙ t)
             (refl, all-cleared (kept-lacked stack left now s))
 
       pub ends-past :
           fault ≤ pc → (pc ≡ fault → ⊥) → (cleared : List ℕ) → cleared ≡ replicate (length (take height stack)) 0 →
-          Met (cleared ++ drop height stack) (Failed completed)
+          Met entry (cleared ++ drop height stack) (Failed completed)
       ends-past l e cleared none =
           failed-so (cleared ++ drop height stack) completed overshot
-          (sym (i .2 .3) ∙ ended-past lookup code fault (length first) (i .2 .0) pc completed (take height stack) l e)
+          (sym (i .2 .3) ∙ ended-past rows lookup code fault (length first) (i .2 .0) pc completed (take height stack) l e)
           (all-cleared stack cleared none refl)
 
       -- the height after an instruction that passes the fault is not told: all cells are cleared
       pub ends-passed :
           pc < fault → (left final : List ℕ) → length left ≡ length entry → final ≡ replicate (length left) 0 →
-          Stepped stack Passes left now → Met final (Failed (completed + 1))
+          Stepped stack Passes left now → Met entry final (Failed (completed + 1))
       ends-passed short left final size none s =
-          let t = passed lookup code fault (length first) (i .2 .0 - 1) pc completed now
+          let t = passed rows lookup code fault (length first) (i .2 .0 - 1) pc completed now
           (sized-so (length first) stack pc height completed i Passes (s .answers)) in
           failed-so final (completed + 1) overshot (sym (told (length first) stack pc height completed i short) ∙ t)
           (none ∙ ap (λ (k : ℕ). replicate k 0) size)
 
-      pub ends-done : pc ≡ fault → Met stack (Done height completed)
+      pub ends-done : pc ≡ fault → Met entry stack (Done height completed)
       ends-done e =
           let high : length (take height stack) ≡ height = length-take-le height stack (i .1 .high) in
           rw
           (ap whole (sym same) ∙ sym (i .2 .3)
-          ∙ ended-at lookup code fault (length first) (i .2 .0) pc completed (take height stack) e) (
+          ∙ ended-at rows lookup code fault (length first) (i .2 .0) pc completed (take height stack) e) (
             ap (λ (k : ℕ). Done k completed) (sym high),
             i .1 .zeros ∙ ap (λ (k : ℕ). shown k (take height stack)) (i .0 ∙ same),
           )
+
+-- by document 01's rows
+pub walks :
+    (code members : List ℕ) (count leader fault : ℕ) (entry left : List ℕ) (answer : Walk) →
+    Met rowOf code members count leader fault entry left answer → Walks code members count leader fault entry answer left
+unfolding blockWalk
+walks code members count leader fault entry left answer met = record { answers = met .0; leaves = met .1 }

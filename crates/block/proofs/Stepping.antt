@@ -1,4 +1,4 @@
--- From a list that is laid into the cells to the instruction that does so.
+-- From a list that is laid into the cells to the instruction that does so, by any table of rows.
 -- Assumes nothing.
 use Prim.Native.Nat.{ℕ, _+_, _≤_, _<_}
 use native.Mathlib.Omega.{arith}
@@ -12,10 +12,11 @@ use Rattle.basics.specs.Bytes.{byteAt}
 use Rattle.basics.specs.Choice.{pick}
 use Rattle.fixed.specs.Fixed.{fixedLength}
 use Rattle.effects.specs.Lookup.{Lookup}
-use Rattle.effects.specs.Rows.{rowOf}
-use Rattle.block.specs.Inner.{bare, laidIn, Laid, Stepped}
-use Rattle.block.specs.Walk.{Reason, tooFew, cells, blanks, load, carried, unread, Effect, fails, does, effectBy, Made}
-use Rattle.block.specs.Walk.{refused, made, applied, goes, passes, landed, step}
+use Rattle.effects.specs.Rows.{Row}
+use Rattle.walk.specs.Walk.{Reason, tooFew, cells, blanks, load, carried, unread, Effect, fails, does, effectBy, Made}
+use Rattle.walk.specs.Walk.{refused, made, applied, goes, passes, landed, step}
+use Rattle.instruction.specs.Code.{bare}
+use Rattle.block.specs.Inner.{laidIn, Laid, Stepped}
 use Rattle.block.specs.declared.Height.{Height}
 use Rattle.block.specs.declared.Height.the-variants.{Refused, Over, High}
 use Rattle.block.specs.declared.Step.{Step}
@@ -91,25 +92,25 @@ module _ (stack left : List ℕ) (fault next : ℕ) where
 
 -- ---- the instruction at pc
 
-module _ (lookup : Lookup) (code : List ℕ) (fault pc : ℕ) (stack : List ℕ) (slots : List ℕ) where
+module _ (rows : ℕ → Row) (lookup : Lookup) (code : List ℕ) (fault pc : ℕ) (stack slots : List ℕ) where
   abbrev pub Steps : Step → List ℕ → Type 0
-  Steps answer left = Stepped stack answer left (step cells rowOf lookup code fault pc slots)
+  Steps answer left = Stepped stack answer left (step cells rows lookup code fault pc slots)
 
   pub past-end : length code ≤ pc → Steps Stops stack
   unfolding step
   past-end l = rw (le-ltb pc (length code) l) (record { answers = refl; leaves = refl })
 
-  -- found: the effect that the code read
+  -- effect: what the code read
   module _ (inside : pc < length code) (effect : Effect)
-      (read : effect ≡ bare (effectBy lookup code pc (rowOf (byteAt code pc)))) (left : List ℕ) where
+      (read : effect ≡ bare (effectBy lookup code pc (rows (byteAt code pc)))) (left : List ℕ) where
     abbrev known : Height → Type 0
     known answer = Laid stack answer left (applied cells pc effect slots)
 
     lay :
         (answer : Height) → known answer →
-        Laid stack answer left (applied cells pc (effectBy lookup code pc (rowOf (byteAt code pc))) slots)
+        Laid stack answer left (applied cells pc (effectBy lookup code pc (rows (byteAt code pc))) slots)
     lay answer laid =
-        with-reason stack answer left pc slots (effectBy lookup code pc (rowOf (byteAt code pc))) (rw read at laid)
+        with-reason stack answer left pc slots (effectBy lookup code pc (rows (byteAt code pc))) (rw read at laid)
 
     pub stops-at : known Refused → Steps Stops left
     unfolding step

@@ -1,4 +1,5 @@
--- What the code's answer to one instruction tells of the walk from there on. An instruction that goes on takes a byte.
+-- What the code's answer to one instruction tells of the walk from there on, by any table of rows whose modelled instructions
+-- take a byte. Document 01's do.
 -- Assumes nothing.
 use Prim.Native.Nat.{ℕ, zero, suc, _+_, _≤_, _<_}
 use native.Mathlib.Omega.{arith}
@@ -11,48 +12,44 @@ use lib.ListN.{length}
 use borrow.Author.Tests.{lt-ltb, le-ltb, eq-eqb, ne-eqb, leb-true}
 use Rattle.basics.specs.Bytes.{byteAt, AreBytes}
 use Rattle.basics.specs.Choice.{pick}
+use Rattle.basics.proofs.Every.{every-at}
 use Rattle.jvms.specs.Format.{formatOf}
 use Rattle.fixed.specs.Fixed.{fixedLength}
+use Rattle.effects.specs.Agreement.{isModelled}
 use Rattle.effects.specs.Lookup.{Lookup}
 use Rattle.effects.specs.Rows.{Row, unmodelled, opaque, aload, aloadOf, carries, keeps, gets, calls, rowOf}
+use Rattle.effects.proofs.Rows.{whereAsked, asked}
+use Rattle.walk.specs.Room.{completing, completedFrom, Roomed, lacks, fits, judged, shown}
+use Rattle.walk.specs.Walk.{Reason, pastEnd, notModelled, overshot, cells, effectBy, Made, refused, made, applied}
+use Rattle.walk.specs.Walk.{Outcome, stops, goes, passes, landed, done, failed, step, after, walkFrom}
 use Rattle.block.specs.Inner.{stepOf, Stepped}
-use Rattle.block.specs.Room.{completing, completedFrom, Roomed, lacks, fits, judged, shown}
-use Rattle.block.specs.Walk.{Reason, pastEnd, notModelled, overshot, cells, effectBy, Made, refused, made, applied}
-use Rattle.block.specs.Walk.{Outcome, stops, goes, passes, landed, done, failed, step, after, walkFrom}
 use Rattle.block.specs.declared.Step.{Step}
 use Rattle.block.specs.declared.Step.the-variants.{Stops, Lacks, Passes, Goes}
-use Rattle.basics.proofs.Every.{every-at}
 
 -- ---- an instruction that goes on takes a byte at least
 
-abbrev modelled : Row → Bool
-modelled unmodelled = false
-modelled (opaque takes gives) = true
-modelled aload = true
-modelled (aloadOf local) = true
-modelled (carries takes places) = true
-modelled keeps = true
-modelled (gets takes) = true
-modelled (calls takes) = true
+abbrev pub Sized : (ℕ → Row) → Type 0
+Sized rows = (op : ℕ) → op < 256 → T (isModelled (rows op)) → 0 < fixedLength op
 
-abbrev sized : Row → ℕ → Bool
-sized row size = pick (modelled row) (ltb 0 size) true
-
-all-sized : (op : ℕ) → op < 256 → T (sized (rowOf op) (fixedLength op))
+-- document 01's rows
+pub row-sized : Sized rowOf
 unfolding rowOf fixedLength formatOf
-all-sized op below = every-at (λ k. sized (rowOf k) (fixedLength k)) 256 tt op below
+row-sized op below some =
+    ltb→lt 0 (fixedLength op)
+    (asked (isModelled (rowOf op)) (ltb 0 (fixedLength op)) some
+    (every-at (λ k. whereAsked (isModelled (rowOf k)) (ltb 0 (fixedLength k))) 256 tt op below))
 
-positive : (row : Row) (size : ℕ) → T (sized row size) → (0 < size) ⊎ (row ≡ unmodelled)
-positive unmodelled size t = inr refl
-positive (opaque takes gives) size t = inl (ltb→lt 0 size t)
-positive aload size t = inl (ltb→lt 0 size t)
-positive (aloadOf local) size t = inl (ltb→lt 0 size t)
-positive (carries takes places) size t = inl (ltb→lt 0 size t)
-positive keeps size t = inl (ltb→lt 0 size t)
-positive (gets takes) size t = inl (ltb→lt 0 size t)
-positive (calls takes) size t = inl (ltb→lt 0 size t)
+modelled-or-not : (row : Row) → T (isModelled row) ⊎ (row ≡ unmodelled)
+modelled-or-not unmodelled = inr refl
+modelled-or-not (opaque takes gives) = inl tt
+modelled-or-not aload = inl tt
+modelled-or-not (aloadOf local) = inl tt
+modelled-or-not (carries takes places) = inl tt
+modelled-or-not keeps = inl tt
+modelled-or-not (gets takes) = inl tt
+modelled-or-not (calls takes) = inl tt
 
-module _ (lookup : Lookup) (code : List ℕ) (fault pc : ℕ) (slots : List ℕ) where
+module _ (rows : ℕ → Row) (lookup : Lookup) (code : List ℕ) (fault pc : ℕ) (slots : List ℕ) where
   never : {P : Type 0} (next : ℕ) (list : List ℕ) → stops notModelled ≡ goes next list → P
   never next list e = let z : _≡_ {A = ℕ} 0 1 = cc in absurd (omega arith)
 
@@ -66,25 +63,26 @@ module _ (lookup : Lookup) (code : List ℕ) (fault pc : ℕ) (slots : List ℕ)
       by-test false e = let z : _≡_ {A = ℕ} 0 1 = cc in absurd (omega arith)
 
   by-row :
-      (row : Row) (size next : ℕ) (list : List ℕ) → T (sized row size) →
+      (row : Row) (size next : ℕ) (list : List ℕ) → (T (isModelled row) → 0 < size) →
       landed fault (pc + size) (applied cells pc (effectBy lookup code pc row) slots) ≡ goes next list → pc < next
   by-row row size next list some e =
       ⊎-elim
-      (λ (l : 0 < size). lands-on size next list (applied cells pc (effectBy lookup code pc row) slots) l e)
+      (λ (m : T (isModelled row)). lands-on size next list (applied cells pc (effectBy lookup code pc row) slots) (some m) e)
       (λ (is : row ≡ unmodelled). never next list (rw is at e))
-      (positive row size some)
+      (modelled-or-not row)
 
   by-test :
-      (op next : ℕ) (list : List ℕ) → op < 256 → (b : Bool) →
-      pick b (landed fault (pc + fixedLength op) (applied cells pc (effectBy lookup code pc (rowOf op)) slots))
+      Sized rows → (op next : ℕ) (list : List ℕ) → op < 256 → (b : Bool) →
+      pick b (landed fault (pc + fixedLength op) (applied cells pc (effectBy lookup code pc (rows op)) slots))
       (stops pastEnd) ≡ goes next list → pc < next
-  by-test op next list small true e = by-row (rowOf op) (fixedLength op) next list (all-sized op small) e
-  by-test op next list small false e = let z : _≡_ {A = ℕ} 0 1 = cc in absurd (omega arith)
+  by-test sized op next list small true e = by-row (rows op) (fixedLength op) next list (sized op small) e
+  by-test sized op next list small false e = let z : _≡_ {A = ℕ} 0 1 = cc in absurd (omega arith)
 
   pub onward :
-      AreBytes code → (next : ℕ) (list : List ℕ) → step cells rowOf lookup code fault pc slots ≡ goes next list → pc < next
+      Sized rows → AreBytes code → (next : ℕ) (list : List ℕ) → step cells rows lookup code fault pc slots ≡ goes next list →
+      pc < next
   unfolding step
-  onward bytes next list e = by-test (byteAt code pc) next list (bytes pc) (ltb pc (length code)) e
+  onward sized bytes next list e = by-test sized (byteAt code pc) next list (bytes pc) (ltb pc (length code)) e
 
 -- ---- the walk from an index, judged by the room
 
@@ -114,14 +112,14 @@ module _ (stack left : List ℕ) where
   kept-lacked (passes list) s =
       kept-unless (leb (length list) (length stack)) Passes (shown (length stack) list) (λ z. cc) (s .answers) (s .leaves)
 
-module _ (lookup : Lookup) (code : List ℕ) (fault room : ℕ) where
+module _ (rows : ℕ → Row) (lookup : Lookup) (code : List ℕ) (fault room : ℕ) where
   abbrev pub at : ℕ → List ℕ → Outcome ℕ
-  at pc slots = step cells rowOf lookup code fault pc slots
+  at pc slots = step cells rows lookup code fault pc slots
 
   abbrev pub from : ℕ → ℕ → List ℕ → ℕ → Roomed ℕ
   from turns pc slots count =
-      judged room (completedFrom cells rowOf lookup code fault turns pc slots)
-      (walkFrom cells rowOf lookup code fault turns pc slots count)
+      judged room (completedFrom cells rows lookup code fault turns pc slots)
+      (walkFrom cells rows lookup code fault turns pc slots count)
 
   -- what follows an instruction
   abbrev pub following : ℕ → ℕ → ℕ → Outcome ℕ → Roomed ℕ
@@ -138,10 +136,10 @@ module _ (lookup : Lookup) (code : List ℕ) (fault room : ℕ) where
       by-outcome :
           (x : Outcome ℕ) →
           judged room
-          (completing cells rowOf lookup code fault x pc
-          (λ next list. completedFrom cells rowOf lookup code fault turns next list))
-          (after cells rowOf lookup code fault x count
-          (λ next list. walkFrom cells rowOf lookup code fault turns next list (count + 1)))
+          (completing cells rows lookup code fault x pc
+          (λ next list. completedFrom cells rows lookup code fault turns next list))
+          (after cells rows lookup code fault x count
+          (λ next list. walkFrom cells rows lookup code fault turns next list (count + 1)))
           ≡ following turns pc count x
       by-outcome (stops reason) = refl
       by-outcome (goes next list) = refl

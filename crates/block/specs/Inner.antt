@@ -1,46 +1,18 @@
 -- Bookkeeping of private functions: what the inner functions of the walk answer and leave, an instruction at a time. No promise
--- of a public function rests on it; the walk itself is in Walk.antt and Room.antt.
+-- of a public function rests on it; what a walk is stands in crates/walk/specs.
 -- Assumes nothing.
-use Prim.Native.Nat.{ℕ, _+_, _≤_}
+use Prim.Native.Nat.{ℕ, _≤_}
 use mathlib.Core.Path.{_≡_}
 use mathlib.Core.List.{List}
 use lib.Dec.{leb}
 use lib.ListN.{length, take}
 use Rattle.basics.specs.Choice.{pick}
-use Rattle.row.specs.Code.{dupPlaces, dup2Places, swapPlaces}
-use Rattle.block.specs.Room.{shown}
-use Rattle.block.specs.Walk.{notModelled, Push, blanks, load, carried, unread, Effect, fails, does, Made}
-use Rattle.block.specs.Walk.{refused, made, Outcome, stops, goes, passes}
-use Rattle.block.specs.declared.Effect.{Effect as CodeEffect}
-use Rattle.block.specs.declared.Effect.the-variants.{Fails, Opaque, Load, Dup, Dup2, Swap}
+use Rattle.walk.specs.Room.{shown}
+use Rattle.walk.specs.Walk.{Made, refused, made, Outcome, stops, goes, passes}
 use Rattle.block.specs.declared.Height.{Height}
 use Rattle.block.specs.declared.Height.the-variants.{Refused, Over, High}
 use Rattle.block.specs.declared.Step.{Step}
 use Rattle.block.specs.declared.Step.the-variants.{Stops, Lacks, Passes, Goes}
-
--- ---- effects
-
--- the code knows that an effect fails, not why
-abbrev pub effectFrom : CodeEffect → Effect
-effectFrom Fails = fails notModelled
-effectFrom (Opaque takes args gives) = does (takes + args) (blanks gives)
-effectFrom (Load local) = does 0 (load local)
-effectFrom Dup = does 1 (carried dupPlaces)
-effectFrom Dup2 = does 2 (carried dup2Places)
-effectFrom Swap = does 2 (carried swapPlaces)
-
-abbrev pub barePush : ℕ → Push → Effect
-barePush takes (blanks n) = does takes (blanks n)
-barePush takes (load local) = does takes (load local)
-barePush takes (carried places) = does takes (carried places)
-barePush takes (unread reason) = fails notModelled
-
--- an effect without its reason
-abbrev pub bare : Effect → Effect
-bare (fails reason) = fails notModelled
-bare (does takes push) = barePush takes push
-
--- ---- an instruction
 
 -- the first h cells are slots, and the others are zero
 pub record Clean (stack : List ℕ) (height : ℕ) : Type 0 where

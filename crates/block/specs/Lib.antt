@@ -1,4 +1,1 @@
-pub mod Answers
 pub mod Inner
-pub mod Room
-pub mod Walk

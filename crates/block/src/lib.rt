@@ -1,56 +1,28 @@
 // The walk of a block over a lent stack of cells (document 01, "The walk").
 use cell::Cell;
 use cell::clear;
-use descriptor::Params;
-use descriptor::Slots;
-use row::Row;
+use instruction::Effect;
+use walk::Walk;
 ghost use mathlib.Core.Path.{_≡_};
-ghost use mathlib.Core.List.{[]};
 ghost use Prim.Native.Nat.{_+_, _<_};
 ghost use lib.Dec.{leb};
-ghost use lib.ListN.{length, take};
-ghost use Rattle.basics.specs.Bytes.{byteAt};
+ghost use lib.ListN.{take};
 ghost use Rattle.basics.specs.Choice.{pick};
 ghost use Rattle.fixed.specs.Fixed.{FixedLengths};
 ghost use Rattle.index.specs.Index.{Indexed};
 ghost use Rattle.effects.specs.Lookup.{lookupIn};
-ghost use Rattle.effects.specs.Rows.{rowOf, aload as aloadRow, gets as getsRow, calls as callsRow};
+ghost use Rattle.effects.specs.Rows.{rowOf};
 ghost use Rattle.row.specs.Code.{dupPlaces, dup2Places, swapPlaces};
-ghost use Rattle.block.specs.Inner.{effectFrom, bare, Clean, Laid, Stepped};
-ghost use Rattle.block.specs.Room.{blockWalk, answerOf, cellsOf};
-ghost use Rattle.block.specs.Walk.{cells, blanks, load as loadPush, carried, does, effectBy, applied, step as stepAt};
+ghost use Rattle.walk.specs.Room.{Walks};
+ghost use Rattle.walk.specs.Walk.{cells, blanks, load as loadPush, carried, does, applied, step as stepAt};
+ghost use Rattle.instruction.specs.Code.{effectFrom};
+ghost use Rattle.block.specs.Inner.{Clean, Laid, Stepped};
 ghost use Rattle.block.specs.declared.Step.the-variants.{Goes, Passes};
 
 // So many members that a walk makes a table of them.
 const MANY: usize = 128;
 // The cells of the table: 1,024 buckets hold every pool index that an instruction can cite.
 const CELLS: usize = 3072;
-
-// What a walk answers.
-pub enum Walk {
-    // The fault was reached: the height of the list, and how many instructions were completed.
-    Done { height: usize, count: usize },
-    // It failed after so many.
-    Failed { count: usize },
-    // The height after the instruction at an index exceeds the lent stack.
-    NoRoom { at: usize },
-}
-
-// What an instruction does to the slots, its operands read.
-pub enum Effect {
-    Fails,
-    Opaque {
-        takes: usize,
-        args: usize,
-        gives: usize,
-    },
-    Load {
-        local: usize,
-    },
-    Dup,
-    Dup2,
-    Swap,
-}
 
 // The height after an effect.
 pub enum Height {
@@ -67,126 +39,16 @@ pub enum Step {
     Goes { pc: usize, height: usize },
 }
 
-// The effect of `aload`, which names its local by a byte.
-fn load_effect(code: &[u8], pc: usize) -> Effect
-    requires { ⌜ pc < length (now code) ⌝ }
-    ensures { λ r. ⌜ effectFrom r ≡ bare (effectBy (lookupIn [] 0) (now (code .entry)) pc aloadRow) ⌝ }
-{
-    if code.len() - pc < 2 {
-        return Effect::Fails;
-    }
-    Effect::Load {
-        local: code[pc + 1] as usize,
-    }
-}
-
-// The effect of reading the field that the instruction at pc cites.
-fn get_effect(
-    code: &[u8],
-    members: &[u8],
-    count: usize,
-    table: &[usize],
-    pc: usize,
-    takes: usize,
-) -> Effect
-    requires { ⌜ pc < length (now code) ⌝ }
-    requires { ⌜ Indexed (now members) count (now table) ⌝ }
-    ensures { λ r. ⌜ effectFrom r
-        ≡ bare (effectBy (lookupIn (now (members .entry)) count) (now (code .entry)) pc (getsRow takes)) ⌝ }
-{
-    if code.len() - pc < 3 {
-        return Effect::Fails;
-    }
-    let texts = index::find_indexed(members, count, table, reads::read_u16(code, pc + 1), 0);
-    if texts.len() == 0 {
-        return Effect::Fails;
-    }
-    Effect::Opaque {
-        takes,
-        args: 0,
-        gives: descriptor::slots_of_field_type(items::descriptor_of(texts)),
-    }
-}
-
-// The effect of calling the method that the instruction at pc cites.
-fn call_effect(
-    code: &[u8],
-    members: &[u8],
-    count: usize,
-    table: &[usize],
-    pc: usize,
-    takes: usize,
-) -> Effect
-    requires { ⌜ pc < length (now code) ⌝ }
-    requires { ⌜ Indexed (now members) count (now table) ⌝ }
-    ensures { λ r. ⌜ effectFrom r
-        ≡ bare (effectBy (lookupIn (now (members .entry)) count) (now (code .entry)) pc (callsRow takes)) ⌝ }
-{
-    if code.len() - pc < 3 {
-        return Effect::Fails;
-    }
-    let texts = index::find_indexed(members, count, table, reads::read_u16(code, pc + 1), 1);
-    if texts.len() == 0 {
-        return Effect::Fails;
-    }
-    let signature = items::descriptor_of(texts);
-    let Params::Read {
-        slots: args,
-        end: _,
-    } = descriptor::parse_method_params(signature)
-    else {
-        return Effect::Fails;
-    };
-    let Slots::Slots(gives) = descriptor::return_type_slots(signature) else {
-        return Effect::Fails;
-    };
-    Effect::Opaque { takes, args, gives }
-}
-
-// The effect of the instruction at pc.
-fn effect_at(code: &[u8], members: &[u8], count: usize, table: &[usize], pc: usize) -> Effect
-    requires { ⌜ pc < length (now code) ⌝ }
-    requires { ⌜ Indexed (now members) count (now table) ⌝ }
-    ensures { λ r. ⌜ effectFrom r
-        ≡ bare (effectBy (lookupIn (now (members .entry)) count) (now (code .entry)) pc
-        (rowOf (byteAt (now (code .entry)) pc))) ⌝ }
-{
-    match row::row_of(code[pc]) {
-        Row::Unmodelled => Effect::Fails,
-        Row::Opaque { takes, gives } => Effect::Opaque {
-            takes,
-            args: 0,
-            gives,
-        },
-        Row::Aload => load_effect(code, pc),
-        Row::AloadOf { local } => Effect::Load { local },
-        Row::Dup => Effect::Dup,
-        Row::Dup2 => Effect::Dup2,
-        Row::Swap => Effect::Swap,
-        Row::Keeps => Effect::Opaque {
-            takes: 0,
-            args: 0,
-            gives: 0,
-        },
-        Row::Gets { takes } => get_effect(code, members, count, table, pc, takes),
-        Row::Calls { takes } => call_effect(code, members, count, table, pc, takes),
-    }
-}
-
 // Takes slots and pushes opaque ones, which are zero.
-fn push_opaque(stack: &mut [u64], height: usize, takes: usize, args: usize, gives: usize) -> Height
+fn push_opaque(stack: &mut [u64], height: usize, takes: usize, gives: usize) -> Height
     requires { ⌜ Clean (now stack) height ⌝ }
     ensures { λ r. ⌜ Laid (now (stack .entry)) r (now (stack .exit))
-        (applied cells 0 (does (takes + args) (blanks gives)) (take height (now (stack .entry)))) ⌝ }
+        (applied cells 0 (does takes (blanks gives)) (take height (now (stack .entry)))) ⌝ }
 {
-    if height < args {
+    if height < takes {
         return Height::Refused;
     }
-    let above = height - args;
-    if above < takes {
-        return Height::Refused;
-    }
-    let start = above - takes;
+    let start = height - takes;
     if stack.len() - start < gives {
         return Height::Over;
     }
@@ -263,7 +125,7 @@ fn apply(stack: &mut [u64], height: usize, pc: usize, effect: Effect) -> Height
 {
     match effect {
         Effect::Fails => Height::Refused,
-        Effect::Opaque { takes, args, gives } => push_opaque(stack, height, takes, args, gives),
+        Effect::Opaque { takes, gives } => push_opaque(stack, height, takes, gives),
         Effect::Load { local } => push_load(stack, height, pc, local),
         Effect::Dup => push_dup(stack, height),
         Effect::Dup2 => push_dup2(stack, height),
@@ -308,8 +170,9 @@ fn step_at(
     if code.len() <= pc {
         return Step::Stops;
     }
-    let effect = effect_at(code, members, count, table, pc);
-    let size = fixed::fixed_by(lengths, code[pc]) as usize;
+    let op = code[pc];
+    let effect = instruction::effect_of(op, code, members, count, table, pc);
+    let size = fixed::fixed_by(lengths, op) as usize;
     match apply(stack, height, pc, effect) {
         Height::Refused => Step::Stops,
         Height::Over => Step::Lacks,
@@ -328,10 +191,8 @@ fn walk_block(
     stack: &mut [u64],
 ) -> Walk
     requires { ⌜ Indexed (now members) count (now table) ⌝ }
-    ensures answers { λ r. ⌜ r ≡ answerOf
-        (blockWalk (now (code .entry)) (now (members .entry)) count leader fault (length (now (stack .entry)))) ⌝ }
-    ensures leaves { λ r. ⌜ now (stack .exit) ≡ cellsOf (length (now (stack .entry)))
-        (blockWalk (now (code .entry)) (now (members .entry)) count leader fault (length (now (stack .entry)))) ⌝ }
+    ensures { λ r. ⌜ Walks (now (code .entry)) (now (members .entry)) count leader fault
+        (now (stack .entry)) r (now (stack .exit)) ⌝ }
 {
     clear(stack);
     let lengths = fixed::fixed_lengths();
@@ -393,10 +254,8 @@ fn walk_indexed(
     fault: usize,
     stack: &mut [u64],
 ) -> Walk
-    ensures answers { λ r. ⌜ r ≡ answerOf
-        (blockWalk (now (code .entry)) (now (members .entry)) count leader fault (length (now (stack .entry)))) ⌝ }
-    ensures leaves { λ r. ⌜ now (stack .exit) ≡ cellsOf (length (now (stack .entry)))
-        (blockWalk (now (code .entry)) (now (members .entry)) count leader fault (length (now (stack .entry)))) ⌝ }
+    ensures { λ r. ⌜ Walks (now (code .entry)) (now (members .entry)) count leader fault
+        (now (stack .entry)) r (now (stack .exit)) ⌝ }
 {
     let mut table = [0usize; CELLS];
     index::index_members(members, count, &mut table);
@@ -412,10 +271,8 @@ pub fn simulate_block(
     fault: usize,
     stack: &mut [u64],
 ) -> Walk
-    ensures answers { λ r. ⌜ r ≡ answerOf
-        (blockWalk (now (code .entry)) (now (members .entry)) count leader fault (length (now (stack .entry)))) ⌝ }
-    ensures leaves { λ r. ⌜ now (stack .exit) ≡ cellsOf (length (now (stack .entry)))
-        (blockWalk (now (code .entry)) (now (members .entry)) count leader fault (length (now (stack .entry)))) ⌝ }
+    ensures { λ r. ⌜ Walks (now (code .entry)) (now (members .entry)) count leader fault
+        (now (stack .entry)) r (now (stack .exit)) ⌝ }
 {
     if count < MANY {
         let none = [0usize; 1];

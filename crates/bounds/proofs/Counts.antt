@@ -27,8 +27,8 @@ use Rattle.cases.specs.LaidOut.{LaidOut}
 use Rattle.cases.proofs.Laying.{accepted-is-laid-out}
 use Rattle.effects.specs.Lookup.{Lookup, lookupIn}
 use Rattle.effects.specs.Rows.{Row, rowOf}
-use Rattle.block.specs.Room.{Completed, Roomed, lacks, fits, judged, completed, blockWalk}
-use Rattle.block.specs.Walk.{Marks, cells, Outcome, stops, goes, passes, Walked, done, failed, overshot, ended, after, step, walkFrom, walk}
+use Rattle.walk.specs.Room.{Completed, Roomed, lacks, fits, judged, completed, blockWalk}
+use Rattle.walk.specs.Walk.{Marks, cells, Outcome, stops, goes, passes, Walked, done, failed, overshot, ended, after, step, walkFrom, walk}
 use Rattle.cell.specs.declared.Slot.{Slot}
 use Rattle.cell.specs.declared.Slot.the-variants.{Other, Loaded}
 use Rattle.fault.specs.Decoding.{decoded}

@@ -28,8 +28,8 @@ use Rattle.casefile.specs.Parts.{partsOf}
 use Rattle.casefile.specs.Whole.{placesIn, caseOf}
 use Rattle.effects.specs.Depth.{ruleOf, depthOf}
 use Rattle.effects.specs.Rows.{rowOf}
-use Rattle.block.specs.Room.{completedFrom, completed, blockWalk}
-use Rattle.block.specs.Walk.{step, walkFrom, walk}
+use Rattle.walk.specs.Room.{completedFrom, completed, blockWalk}
+use Rattle.walk.specs.Walk.{step, walkFrom, walk}
 use Rattle.fault.specs.Decoding.{actionOf, decoded}
 use Rattle.search.specs.Search.{firstMatch}
 use Rattle.locals.specs.Name.{signatureParameter, numberedName, localName}

@@ -22,7 +22,7 @@ use Rattle.effects.specs.Depth.{Depth, nowhere, at, ruleOf, depthBy, depthOf}
 use Rattle.effects.specs.Lookup.{lookupIn}
 use Rattle.cell.specs.Cell.{cellOf}
 use Rattle.cell.proofs.Laws.{cell-of-unpacked}
-use Rattle.block.specs.Room.{answerOf, shown, cellsOf}
+use Rattle.walk.specs.Room.{answerOf, shown, cellsOf}
 use Rattle.fault.specs.Decoding.{invokes, actionOf, constructs, failedAt, decoded}
 use Rattle.fault.specs.declared.Action.{Action}
 use Rattle.fault.specs.declared.Fault.the-variants.{Failed, Nothing}

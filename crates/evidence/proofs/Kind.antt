@@ -16,8 +16,8 @@ use Rattle.leader.specs.declared.Scan.{Scan}
 use Rattle.leader.specs.declared.Scan.the-variants.{Leader, Unmeasured}
 use Rattle.casefile.specs.Parts.{Parts}
 use Rattle.cell.specs.Cell.{unpacked}
-use Rattle.block.specs.Room.{Roomed, lacks, fits, blockWalk}
-use Rattle.block.specs.Walk.{done, failed}
+use Rattle.walk.specs.Room.{Roomed, lacks, fits, blockWalk}
+use Rattle.walk.specs.Walk.{done, failed}
 use Rattle.cell.specs.declared.Slot.{Slot}
 use Rattle.cell.specs.declared.Slot.the-variants.{Other, Loaded}
 use Rattle.fault.specs.Decoding.{decoded}

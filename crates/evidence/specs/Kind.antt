@@ -10,8 +10,8 @@ use Rattle.leader.specs.Scan.{blockLeader}
 use Rattle.leader.specs.declared.Scan.the-variants.{Leader}
 use Rattle.casefile.specs.Parts.{Parts}
 use Rattle.cell.specs.Cell.{unpacked}
-use Rattle.block.specs.Room.{fits, blockWalk}
-use Rattle.block.specs.Walk.{done}
+use Rattle.walk.specs.Room.{fits, blockWalk}
+use Rattle.walk.specs.Walk.{done}
 use Rattle.cell.specs.declared.Slot.the-variants.{Loaded}
 use Rattle.fault.specs.Decoding.{decoded}
 use Rattle.fault.specs.declared.Action.{Action}

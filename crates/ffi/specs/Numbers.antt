@@ -3,7 +3,7 @@
 use Prim.Native.Nat.{ℕ}
 use mathlib.Core.List.{List}
 use lib.ListN.{replicate}
-use Rattle.block.specs.Room.{Roomed, blockWalk, answerOf, cellsOf}
+use Rattle.walk.specs.Room.{Roomed, blockWalk, answerOf, cellsOf}
 use Rattle.casefile.specs.Parts.{Parts, partsOf}
 use Rattle.casefile.specs.declared.Case.{Case}
 use Rattle.casefile.specs.declared.Case.the-variants as cases

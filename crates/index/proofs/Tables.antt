@@ -172,7 +172,7 @@ tabled-once members count before one other a b =
 
 module _ (members : List ℕ) (count : ℕ) (table : List ℕ) (index kind : ℕ) where
   -- by a table that serves, a lookup finds what it finds in the whole run
-  found-by : Indexed members count table → foundBy members count table index kind ≡ memberFound members index kind count 0 0
+  pub found-by : Indexed members count table → foundBy members count table index kind ≡ memberFound members index kind count 0 0
   unfolding foundBy
   found-by serves = by-test (ltb (bucketOf index) (length table / 3)) refl
     where

@@ -3,7 +3,7 @@
 use Prim.Native.Nat.{ℕ}
 use mathlib.Core.Path.{_≡_, ap}
 use mathlib.Core.List.{List}
-use Rattle.block.proofs.Answers as block
+use Rattle.walk.proofs.Answers as block
 use Rattle.bytecode.proofs.Laws as bytecode
 use Rattle.casefile.proofs.Answer as casefile
 use Rattle.judging.proofs.Numbers as jdescriptor

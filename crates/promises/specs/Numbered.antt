@@ -6,7 +6,7 @@
 use Prim.Native.Nat.{ℕ}
 use mathlib.Core.Path.{_≡_}
 use mathlib.Core.List.{List}
-use Rattle.block.specs.Room.{numbered as walkNumbered}
+use Rattle.walk.specs.Room.{numbered as walkNumbered}
 use Rattle.bytecode.specs.Length.{numbered as lengthNumbered}
 use Rattle.casefile.specs.Whole.{numbered as caseNumbered}
 use Rattle.judging.specs.Judged.{numbered as strictNumbered}

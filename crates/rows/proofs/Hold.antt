@@ -34,8 +34,8 @@ use Rattle.casefile.specs.Whole.{placesIn, caseOf}
 use Rattle.effects.specs.Depth.{ruleOf, depthOf}
 use Rattle.effects.specs.Lookup.{lookupIn}
 use Rattle.effects.specs.Rows.{rowOf}
-use Rattle.block.specs.Room.{completedFrom, completed, blockWalk}
-use Rattle.block.specs.Walk.{step, walkFrom, walk}
+use Rattle.walk.specs.Room.{completedFrom, completed, blockWalk}
+use Rattle.walk.specs.Walk.{step, walkFrom, walk}
 use Rattle.fault.specs.Decoding.{actionOf, constructs, decoded}
 use Rattle.search.specs.Search.{firstMatch}
 use Rattle.locals.specs.Name.{signatureParameter, numberedName, localName}

@@ -3,9 +3,9 @@
 //
 // The stored lines were made by the Rust's own simulate_block, given the same codes and members. It tells neither counts
 // nor heights on the way: these are from its answers for each later fault, the next that it reaches ending an instruction.
-use block::Walk;
 use cell::Slot;
 use libc::STDOUT_FILENO;
+use walk::Walk;
 ghost use Prim.Native.Nat.{_<_};
 
 fn say(text: &[u8]) {

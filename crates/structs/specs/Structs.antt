@@ -6,9 +6,9 @@ use mathlib.Core.List.{List}
 use lib.Dec.{eqb}
 use lib.ListN.{getD}
 use Rattle.basics.specs.Choice.{pick}
-use Rattle.block.specs.Room.{numbered as walkNumbered}
-use Rattle.block.specs.declared.Walk.{Walk}
-use Rattle.block.specs.declared.Walk.the-variants.{Done, Failed, NoRoom}
+use Rattle.walk.specs.Room.{numbered as walkNumbered}
+use Rattle.walk.specs.declared.Walk.{Walk}
+use Rattle.walk.specs.declared.Walk.the-variants.{Done, Failed, NoRoom}
 use Rattle.bytecode.specs.Length.{numbered as lengthNumbered}
 use Rattle.bytecode.specs.declared.Measure.{Measure}
 use Rattle.casefile.specs.Whole.{numbered as caseNumbered}

@@ -1,7 +1,7 @@
 // The library's answers as structs of numbers, for C. A number that an answer does not carry is 0.
 use answer::Report;
-use block::Walk;
 use judging::Answer;
+use walk::Walk;
 ghost use mathlib.Core.Path.{_≡_};
 ghost use Rattle.structs.specs.Structs.{low, reportNumbers, walkNumbers, strictNumbers};
 

@@ -11,11 +11,11 @@ use lib.Seq.{getD-take, take-at, drop-at, length-take-le}
 use borrow.Author.Tests.{ltb-true}
 use Rattle.basics.specs.Choice.{pick}
 use Rattle.cell.specs.Cell.{unpacked}
-use Rattle.block.specs.Room.{Roomed, lacks, fits, answerOf, shown, cellsOf}
-use Rattle.block.specs.Walk.{done, failed}
+use Rattle.walk.specs.Room.{Roomed, lacks, fits, answerOf, shown, cellsOf}
+use Rattle.walk.specs.Walk.{done, failed}
 use Rattle.cell.specs.declared.Slot.the-variants.{Other}
 use Rattle.cell.specs.declared.Slot.{Slot}
-use Rattle.block.specs.declared.Walk.the-variants.{Done, Failed, NoRoom}
+use Rattle.walk.specs.declared.Walk.the-variants.{Done, Failed, NoRoom}
 use Rattle.trace.specs.Trace.{slotFrom, traceOf}
 use Rattle.trace.specs.declared.Trace.the-variants.{NoRoom as LacksRoom, Traced}
 

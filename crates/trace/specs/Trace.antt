@@ -10,8 +10,8 @@ use Rattle.leader.specs.Scan.{blockLeader}
 use Rattle.leader.specs.declared.Scan.{Scan}
 use Rattle.leader.specs.declared.Scan.the-variants.{Leader, Unmeasured}
 use Rattle.cell.specs.Cell.{unpacked}
-use Rattle.block.specs.Room.{Roomed, lacks, fits, blockWalk}
-use Rattle.block.specs.Walk.{done, failed}
+use Rattle.walk.specs.Room.{Roomed, lacks, fits, blockWalk}
+use Rattle.walk.specs.Walk.{done, failed}
 use Rattle.cell.specs.declared.Slot.{Slot}
 use Rattle.cell.specs.declared.Slot.the-variants.{Other}
 use Rattle.trace.specs.declared.Trace.{Trace}

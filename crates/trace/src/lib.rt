@@ -1,15 +1,15 @@
 // The cause of a fault, traced over the block that it lies in (document 01, "Action and cause").
-use block::Walk;
 use cell::Slot;
 use cell::clear;
 use leader::Scan;
+use walk::Walk;
 ghost use Prim.Native.Nat.{_-_, _≤_};
 ghost use mathlib.Core.Path.{_≡_};
 ghost use lib.Dec.{ltb};
 ghost use lib.ListN.{length, getD, replicate};
 ghost use Rattle.basics.specs.Choice.{pick};
 ghost use Rattle.cell.specs.Cell.{unpacked};
-ghost use Rattle.block.specs.Room.{blockWalk};
+ghost use Rattle.walk.specs.Room.{blockWalk};
 ghost use Rattle.cell.specs.declared.Slot.the-variants.{Other};
 ghost use Rattle.trace.specs.Trace.{traceOf, traced};
 

@@ -11,7 +11,7 @@ use Rattle.jvms.specs.Machine.{State, citedAt, localAt, below, topmost, run}
 use Rattle.jvms.specs.Stack.{Local, indexed, numbered, Entry, unlisted, does, eitherOf, loads, stores, increments, throws, Cited, entryOf}
 use Rattle.effects.specs.Agreement.{takenBy, Carried, Pushed, localOf, Details}
 use Rattle.effects.specs.Rows.{Row, unmodelled, opaque, aload, aloadOf, carries, keeps, gets, calls}
-use Rattle.block.specs.Walk.{Push}
+use Rattle.walk.specs.Walk.{Push}
 use Rattle.truth.specs.Relation.{Held, none, one, Setting, ownBy, own, Speaks, Given}
 use Rattle.truth.proofs.Carried.{held-carried}
 use Rattle.truth.proofs.Held.{same-length, held-take, held-append, held-run}

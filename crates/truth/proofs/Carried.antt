@@ -11,7 +11,7 @@ use Rattle.basics.specs.Choice.{between}
 use Rattle.basics.proofs.Every.{both-first, both-second}
 use Rattle.jvms.specs.Machine.{topmost}
 use Rattle.effects.specs.Agreement.{within, Carried}
-use Rattle.block.specs.Walk.{placed}
+use Rattle.walk.specs.Walk.{placed}
 use Rattle.truth.specs.Relation.{Held, none, one}
 use Rattle.truth.proofs.Held.{same-length, held-at}
 use Rattle.truth.proofs.Machine.{topmost-over, topmost-length}

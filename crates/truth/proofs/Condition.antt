@@ -13,9 +13,9 @@ use Rattle.effects.specs.Depth.{depthOf, at}
 use Rattle.effects.specs.Lookup.{Lookup, lookupIn}
 use Rattle.effects.specs.Rows.{rowOf}
 use Rattle.effects.proofs.Rows.{rows-agree}
-use Rattle.block.specs.Room.{completed, blockWalk}
+use Rattle.walk.specs.Room.{completed, blockWalk}
 use Rattle.cell.specs.Cell.{cellOf}
-use Rattle.block.specs.Walk.{cells, walk}
+use Rattle.walk.specs.Walk.{cells, walk}
 use Rattle.truth.specs.Condition.{Described, Findings, Premises, Condition3}
 use Rattle.truth.specs.Relation.{Setting, Speaks, Given, Translated}
 use Rattle.truth.specs.Translation.{since, HeldWhen, Translates}

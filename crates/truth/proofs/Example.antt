@@ -31,8 +31,8 @@ use Rattle.effects.specs.Depth.{ruleOf, depthOf, at}
 use Rattle.effects.specs.Lookup.{lookupIn, known}
 use Rattle.effects.specs.Rows.{rowOf}
 use Rattle.effects.proofs.Rows.{whereAsked, asked}
-use Rattle.block.specs.Room.{completedFrom, completed, fits, blockWalk, answerOf, cellsOf}
-use Rattle.block.specs.Walk.{done, step, walkFrom, walk}
+use Rattle.walk.specs.Room.{completedFrom, completed, fits, blockWalk, answerOf, cellsOf}
+use Rattle.walk.specs.Walk.{done, step, walkFrom, walk}
 use Rattle.truth.specs.Condition.{Described}
 use Rattle.truth.specs.Example.{worked, pool, PremisesMet, NamedRightly}
 use Rattle.truth.proofs.Cause.{cause-true}

@@ -13,9 +13,9 @@ use Rattle.jvms.specs.Machine.{Pool, State, ran}
 use Rattle.jvms.specs.Stack.{entryOf}
 use Rattle.fixed.specs.Fixed.{fixedLength}
 use Rattle.effects.specs.Rows.{rowOf}
-use Rattle.block.specs.Room.{completedFrom, completed, blockWalk, cellsOf}
+use Rattle.walk.specs.Room.{completedFrom, completed, blockWalk, cellsOf}
 use Rattle.cell.specs.Cell.{cellOf}
-use Rattle.block.specs.Walk.{step, walkFrom, walk}
+use Rattle.walk.specs.Walk.{step, walkFrom, walk}
 use Rattle.truth.specs.Cause.{Leaves, HasForce}
 use Rattle.truth.specs.Translation.{since, TrueTranslation}
 

@@ -18,7 +18,7 @@ use Rattle.descriptors.proofs.Agree.{lenient-agrees}
 use Rattle.effects.specs.Agreement.{takenBy, Details}
 use Rattle.effects.specs.Lookup.{Known, missing, known, Lookup}
 use Rattle.effects.specs.Rows.{Row, unmodelled, opaque, aload, aloadOf, carries, keeps, gets, calls}
-use Rattle.block.specs.Walk.{notModelled, cut, Marks, Push, blanks, load, carried, unread, Effect, fails, does, getting, calling, effectBy, made, applied}
+use Rattle.walk.specs.Walk.{notModelled, cut, Marks, Push, blanks, load, carried, unread, Effect, fails, does, getting, calling, effectBy, made, applied}
 use Rattle.truth.specs.Condition.{Described}
 use Rattle.truth.proofs.Step.{refused-not-made}
 

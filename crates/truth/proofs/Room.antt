@@ -9,9 +9,9 @@ use lib.Dec.{leb}
 use lib.ListN.{length, take, replicate}
 use lib.Seq.{take-at}
 use Rattle.basics.specs.Choice.{pick}
-use Rattle.block.specs.Room.{Completed, Roomed, lacks, fits, judged, answerOf, cellsOf}
-use Rattle.block.specs.Walk.{Walked, done, failed}
-use Rattle.block.specs.declared.Walk.the-variants.{Done}
+use Rattle.walk.specs.Room.{Completed, Roomed, lacks, fits, judged, answerOf, cellsOf}
+use Rattle.walk.specs.Walk.{Walked, done, failed}
+use Rattle.walk.specs.declared.Walk.the-variants.{Done}
 
 pub record Fitted (room : ℕ) (completed : List Completed) (walked : Walked ℕ) (height count : ℕ) : Type 0 where
   pub slots : List ℕ

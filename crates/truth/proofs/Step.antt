@@ -13,8 +13,8 @@ use Rattle.basics.specs.Choice.{pick}
 use Rattle.fixed.specs.Fixed.{fixedLength}
 use Rattle.effects.specs.Lookup.{Lookup}
 use Rattle.effects.specs.Rows.{Row}
-use Rattle.block.specs.Walk.{Reason, pastEnd, tooLarge, tooFew, Marks, Push, blanks, load, carried, unread, does, effectBy}
-use Rattle.block.specs.Walk.{Made, refused, made, placed, pushed, applied, stops, goes, passes, landed, step}
+use Rattle.walk.specs.Walk.{Reason, pastEnd, tooLarge, tooFew, Marks, Push, blanks, load, carried, unread, does, effectBy}
+use Rattle.walk.specs.Walk.{Made, refused, made, placed, pushed, applied, stops, goes, passes, landed, step}
 
 -- ---- an effect
 

@@ -18,7 +18,7 @@ use Rattle.bytecode.proofs.Measuring.{fits}
 use Rattle.lengths.proofs.Agree.{jvms-length}
 use Rattle.effects.specs.Agreement.{isModelled, hasEffect, takenBy, Pushed, FormAgrees, formsOf, hasForm, EffectAgrees}
 use Rattle.effects.specs.Rows.{Row, unmodelled, opaque, aload, aloadOf, carries, keeps, gets, calls}
-use Rattle.block.specs.Walk.{blanks, effectBy, made, applied}
+use Rattle.walk.specs.Walk.{blanks, effectBy, made, applied}
 use Rattle.truth.specs.Condition.{InBlock, after, Described}
 use Rattle.truth.specs.Relation.{Setting, own, Speaks, Given}
 use Rattle.truth.proofs.Above.{Above, moved, held-pushed}

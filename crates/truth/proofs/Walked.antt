@@ -12,7 +12,7 @@ use lib.Dec.{eqb, ltb}
 use borrow.Author.Tests.{eqb-true, ltb-true}
 use Rattle.basics.specs.Choice.{pick}
 use Rattle.jvms.specs.Machine.{State, next, ran}
-use Rattle.block.specs.Walk.{overshot, Outcome, stops, goes, passes, done, failed, step, ended, after, walkFrom, walk}
+use Rattle.walk.specs.Walk.{overshot, Outcome, stops, goes, passes, done, failed, step, ended, after, walkFrom, walk}
 use Rattle.truth.specs.Condition.{InBlock, first}
 use Rattle.truth.specs.Relation.{none, Setting, machine, Speaks, Given, Translated, WalkTranslates}
 use Rattle.truth.proofs.Above.{Above}

@@ -7,9 +7,9 @@ use lib.ListN.{length, getD}
 use Rattle.jvms.specs.Machine.{Pool, target}
 use Rattle.effects.specs.Depth.{depthOf, at}
 use Rattle.effects.specs.Lookup.{lookupIn}
-use Rattle.block.specs.Room.{blockWalk, cellsOf, fits}
+use Rattle.walk.specs.Room.{blockWalk, cellsOf, fits}
 use Rattle.cell.specs.Cell.{cellOf}
-use Rattle.block.specs.Walk.{done}
+use Rattle.walk.specs.Walk.{done}
 use Rattle.truth.specs.Condition.{Findings, Premises}
 use Rattle.truth.specs.Translation.{since, HeldWhen, TrueTranslation}
 

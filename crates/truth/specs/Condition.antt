@@ -21,8 +21,8 @@ use Rattle.leaders.specs.Leader.{Reached}
 use Rattle.descriptors.specs.Lenient.{occurs}
 use Rattle.effects.specs.Depth.{depthOf, at}
 use Rattle.effects.specs.Lookup.{Lookup, lookupIn, known}
-use Rattle.block.specs.Room.{blockWalk, answerOf, cellsOf}
-use Rattle.block.specs.declared.Walk.the-variants.{Done}
+use Rattle.walk.specs.Room.{blockWalk, answerOf, cellsOf}
+use Rattle.walk.specs.declared.Walk.the-variants.{Done}
 use Rattle.truth.specs.Translation.{since, TrueTranslation}
 
 -- an instruction of the block: the leader's, and the one after each that has a length

@@ -11,7 +11,7 @@ use Rattle.jvms.specs.Stack.{Entry, unlisted, does, eitherOf, loads, stores, in
 use Rattle.effects.specs.Agreement.{Agreeing}
 use Rattle.effects.specs.Lookup.{Lookup}
 use Rattle.effects.specs.Rows.{Row}
-use Rattle.block.specs.Walk.{Marks, done, walk}
+use Rattle.walk.specs.Walk.{Marks, done, walk}
 use Rattle.truth.specs.Condition.{InBlock, Described}
 use Rattle.truth.specs.Translation.{since}
 

@@ -4,7 +4,7 @@ use native.Mathlib.Omega.{arith}
 use mathlib.Core.Path.{sym}
 use borrow.Author.Needs.{needs}
 use Rattle.row.specs.Code.{dupPlaces}
-use Rattle.block.specs.Walk.{carried}
+use Rattle.walk.specs.Walk.{carried}
 use Rattle.block.proofs.Laying as laying
 use Rattle.block.proofs.push_dup.Statement.{statement}
 use Rattle.block.proofs.push_dup.Tie as tie

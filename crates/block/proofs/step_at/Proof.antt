@@ -1,10 +1,15 @@
 -- `block::step_at` meets its contract. A case on how the effect was laid into the cells.
 -- Assumes nothing.
 use native.Mathlib.Omega.{arith}
-use mathlib.Core.Path.{_∙_}
+use mathlib.Core.Path.{_≡_, _∙_, ap}
 use lib.ListN.{take}
 use borrow.Author.Needs.{needs}
-use Rattle.effects.specs.Lookup.{lookupIn}
+use Rattle.basics.specs.Bytes.{byteAt}
+use Rattle.effects.specs.Lookup.{Lookup, lookupIn}
+use Rattle.effects.specs.Rows.{rowOf}
+use Rattle.walk.specs.Walk.{effectBy}
+use Rattle.instruction.specs.Code.{effectFrom, bare}
+use Rattle.instruction.proofs.Laws.{looks-alike}
 use Rattle.block.proofs.Stepping as stepping
 use Rattle.block.proofs.step_at.Statement.{statement}
 use Rattle.block.proofs.step_at.Tie as tie
@@ -12,14 +17,27 @@ use Rattle.block.proofs.step_at.Tie as tie
 returns : tie.Need-returns
 returns c =
     let a = c .before .before .before .before .before .args in
-    stepping.past-end (lookupIn (a .members .now) (a .count)) (a .code .now) (a .fault) (a .pc) (a .stack .now)
+    stepping.past-end rowOf (lookupIn (a .members .now) (a .count)) (a .code .now) (a .fault) (a .pc) (a .stack .now)
     (take (a .height) (a .stack .now)) (c .if1 .taken)
 
-effect-at-requires : tie.Need-effect-at-requires
-effect-at-requires c κs = search needs
+shared-slice-read-op : tie.Need-shared-slice-read-op
+shared-slice-read-op c = search needs
 
-shared-slice-read-fixed-by : tie.Need-shared-slice-read-fixed-by
-shared-slice-read-fixed-by c = search needs
+effect-of-requires : tie.Need-effect-of-requires
+effect-of-requires c κs = search needs
+
+-- the table serves the run, so the effect is that of a lookup in the whole run
+known :
+    (c : tie.After-effect-of) →
+    let a = c .before .before .before .before .before .before .before .args in
+    effectFrom (c .effect-of .result)
+    ≡ bare (effectBy (lookupIn (a .members .now) (a .count)) (a .code .now) (a .pc) (rowOf (byteAt (a .code .now) (a .pc))))
+known c =
+    let start = c .before .before .before .before .before .before .before in
+    let a = start .args in
+    c .effect-of .ensures
+    ∙ ap (λ (look : Lookup). bare (effectBy look (a .code .now) (a .pc) (rowOf (byteAt (a .code .now) (a .pc)))))
+    (looks-alike (a .members .now) (a .count) (a .table .now) (start .pre .1 .0))
 
 fixed-by-requires : tie.Need-fixed-by-requires
 fixed-by-requires c κs = search needs
@@ -48,10 +66,10 @@ same-length c = search needs
 returns-2 : tie.Need-returns-2
 returns-2 c =
     let laid = c .before .before .before .before in
-    let read = laid .before .before .before .before in
-    let a = read .before .before .before .before .before .before .args in
-    stepping.stops-at (lookupIn (a .members .now) (a .count)) (a .code .now) (a .fault) (a .pc) (a .stack .now)
-    (take (a .height) (a .stack .now)) (omega arith) _ (read .effect-at .ensures) _
+    let read = laid .before .before .before in
+    let a = read .before .before .before .before .before .before .before .args in
+    stepping.stops-at rowOf (lookupIn (a .members .now) (a .count)) (a .code .now) (a .fault) (a .pc) (a .stack .now)
+    (take (a .height) (a .stack .now)) (omega arith) _ (known read) _
     (rw (c .enum-told .given .1) at (laid .apply .ensures))
 
 same-length-2 : tie.Need-same-length-2
@@ -60,10 +78,10 @@ same-length-2 c = search needs
 returns-3 : tie.Need-returns-3
 returns-3 c =
     let laid = c .before .before .before .before in
-    let read = laid .before .before .before .before in
-    let a = read .before .before .before .before .before .before .args in
-    stepping.lacks-at (lookupIn (a .members .now) (a .count)) (a .code .now) (a .fault) (a .pc) (a .stack .now)
-    (take (a .height) (a .stack .now)) (omega arith) _ (read .effect-at .ensures) _
+    let read = laid .before .before .before in
+    let a = read .before .before .before .before .before .before .before .args in
+    stepping.lacks-at rowOf (lookupIn (a .members .now) (a .count)) (a .code .now) (a .fault) (a .pc) (a .stack .now)
+    (take (a .height) (a .stack .now)) (omega arith) _ (known read) _
     (rw (c .enum-told2 .given .1) at (laid .apply .ensures))
 
 same-length-3 : tie.Need-same-length-3
@@ -72,14 +90,13 @@ same-length-3 c = search needs
 returns-4 : tie.Need-returns-4
 returns-4 c =
     let laid = c .before .before .before .before .before .before in
-    let read = laid .before .before .before .before in
-    let start = read .before .before .before .before .before .before in
+    let read = laid .before .before .before in
+    let start = read .before .before .before .before .before .before .before in
     let a = start .args in
     let size =
-    laid .before .before .fixed-by .ensures
-    ∙ start .pre .0 .entries _ (read .before .before .before .before .before .shared-slice-known .given (a .pc) .fits) in
-    stepping.lands-at (lookupIn (a .members .now) (a .count)) (a .code .now) (a .fault) (a .pc) (a .stack .now)
-    (take (a .height) (a .stack .now)) (omega arith) _ (read .effect-at .ensures) _ _ _ _ size
+    laid .before .before .fixed-by .ensures ∙ start .pre .0 .entries _ (read .before .shared-slice-known4 .given (a .pc) .fits) in
+    stepping.lands-at rowOf (lookupIn (a .members .now) (a .count)) (a .code .now) (a .fault) (a .pc) (a .stack .now)
+    (take (a .height) (a .stack .now)) (omega arith) _ (known read) _ _ _ _ size
     (rw (c .before .before .next .given .1) at (laid .apply .ensures))
     (c .land .ensures)
 
@@ -88,8 +105,8 @@ step-at-spec =
     tie.close
     (tie.spec
     returns
-    effect-at-requires
-    shared-slice-read-fixed-by
+    shared-slice-read-op
+    effect-of-requires
     fixed-by-requires
     cast-size
     apply-requires

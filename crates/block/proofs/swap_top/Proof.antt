@@ -5,7 +5,7 @@ use mathlib.Core.Path.{sym}
 use lib.ListN.{length-set}
 use borrow.Author.Needs.{needs}
 use Rattle.row.specs.Code.{swapPlaces}
-use Rattle.block.specs.Walk.{carried}
+use Rattle.walk.specs.Walk.{carried}
 use Rattle.block.proofs.Laying as laying
 use Rattle.block.proofs.swap_top.Statement.{statement}
 use Rattle.block.proofs.swap_top.Tie as tie

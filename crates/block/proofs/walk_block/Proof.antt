@@ -7,13 +7,15 @@ use lib.ListN.{length}
 use lib.Seq.{length-take-le}
 use borrow.Author.Needs.{needs}
 use Rattle.basics.specs.Bytes.{AreBytes}
+use Rattle.effects.specs.Rows.{rowOf}
 use Rattle.block.proofs.Looping as looping
+use Rattle.block.proofs.Walking.{row-sized}
 use Rattle.block.proofs.walk_block.Statement.{statement}
 use Rattle.block.proofs.walk_block.Tie as tie
 
 abbrev Inv-loop : tie.InvT-loop
 Inv-loop code members count table leader fault stack₀ lengths pc₀ height₀ completed₀ stack pc height completed =
-    looping.Inv code members count leader fault (length stack₀) stack pc height completed
+    looping.Inv rowOf code members count leader fault (length stack₀) stack pc height completed
 
 abbrev μ-loop : tie.MeasureT-loop
 μ-loop code members count table leader fault stack₀ lengths pc₀ height₀ completed₀ stack pc height completed = fault - pc
@@ -28,7 +30,7 @@ loop-holds : tie.Need-loop-holds Inv-loop μ-loop
 loop-holds c =
     let first = c .before .before .before in
     let a = first .before .before .before .before .before .before .args in
-    looping.starts (a .code .now) (a .members .now) (a .count) (a .leader) (a .fault) (length (a .stack .now)) _
+    looping.starts rowOf (a .code .now) (a .members .now) (a .count) (a .leader) (a .fault) (length (a .stack .now)) _
     (first .clear .ensures)
 
 step-at-requires : tie.Need-step-at-requires Inv-loop μ-loop
@@ -67,10 +69,11 @@ returns c =
     let at = turn .before .before .before .before .loop in
     let first = turn .before .before .before .before .before .before .before .before in
     let a = first .before .before .before .before .before .before .args in
-    looping.ends-stopped (a .code .now) (a .members .now) (a .count) (a .leader) (a .fault) (a .stack .now) _
+    looping.walks _ _ _ _ _ _ _ _
+    (looping.ends-stopped rowOf (a .code .now) (a .members .now) (a .count) (a .leader) (a .fault) (a .stack .now) _
     (first .clear .ensures) (at .stack) (at .pc) (at .height) (at .completed) (at .inv)
     _ _ (c .before .before .clear2 .ensures) (turn .before .before .before .loop-test .taken)
-    (rw (c .before .before .before .before .enum-told .given .1) at (turn .step-at .ensures))
+    (rw (c .before .before .before .before .enum-told .given .1) at (turn .step-at .ensures)))
 
 enum-told-2 : tie.Need-enum-told-2 Inv-loop μ-loop
 enum-told-2 c = search needs
@@ -94,10 +97,11 @@ returns-2 c =
     let at = turn .before .before .before .before .loop in
     let first = turn .before .before .before .before .before .before .before .before in
     let a = first .before .before .before .before .before .before .args in
-    looping.ends-lacked (a .code .now) (a .members .now) (a .count) (a .leader) (a .fault) (a .stack .now) _
+    looping.walks _ _ _ _ _ _ _ _
+    (looping.ends-lacked rowOf (a .code .now) (a .members .now) (a .count) (a .leader) (a .fault) (a .stack .now) _
     (first .clear .ensures) (at .stack) (at .pc) (at .height) (at .completed) (at .inv)
     _ _ (c .before .before .clear3 .ensures) (turn .before .before .before .loop-test .taken)
-    (rw (c .before .before .before .before .enum-told2 .given .1) at (turn .step-at .ensures))
+    (rw (c .before .before .before .before .enum-told2 .given .1) at (turn .step-at .ensures)))
 
 enum-told-3 : tie.Need-enum-told-3 Inv-loop μ-loop
 enum-told-3 c = search needs
@@ -117,10 +121,11 @@ returns-3 c =
     let at = turn .before .before .before .before .loop in
     let first = turn .before .before .before .before .before .before .before .before in
     let a = first .before .before .before .before .before .before .args in
-    looping.ends-passed (a .code .now) (a .members .now) (a .count) (a .leader) (a .fault) (a .stack .now) _
+    looping.walks _ _ _ _ _ _ _ _
+    (looping.ends-passed rowOf (a .code .now) (a .members .now) (a .count) (a .leader) (a .fault) (a .stack .now) _
     (first .clear .ensures) (at .stack) (at .pc) (at .height) (at .completed) (at .inv)
     (turn .before .before .before .loop-test .taken) _ _ (omega arith) (c .before .before .clear4 .ensures)
-    (rw (c .before .before .before .before .enum-told3 .given .1) at (turn .step-at .ensures))
+    (rw (c .before .before .before .before .enum-told3 .given .1) at (turn .step-at .ensures)))
 
 enum-known-next : tie.Need-enum-known-next Inv-loop μ-loop
 enum-known-next c = search needs
@@ -136,8 +141,8 @@ loop-less c =
     let start = first .before .before .before .before .before .before in
     let a = start .args in
     let bytes : AreBytes (a .code .now) = λ i. first .before .before .before .before .before .shared-slice-known .given i .fits in
-    let on = looping.up (a .code .now) (a .members .now) (a .count) (a .leader) (a .fault) (length (first .clear .last .0))
-    (at .stack) (at .pc) (at .height) (at .completed) (at .inv) bytes (turn .before .before .before .loop-test .taken) _ _ _
+    let on = looping.up rowOf (a .code .now) (a .members .now) (a .count) (a .leader) (a .fault) (length (first .clear .last .0))
+    (at .stack) (at .pc) (at .height) (at .completed) (at .inv) row-sized bytes (turn .before .before .before .loop-test .taken) _ _ _
     (rw (c .before .next .given .1) at (turn .step-at .ensures)) in
     omega (arith, on, turn .before .before .before .loop-test .taken)
 
@@ -149,8 +154,8 @@ loop-again c =
     let start = first .before .before .before .before .before .before in
     let a = start .args in
     let bytes : AreBytes (a .code .now) = λ i. first .before .before .before .before .before .shared-slice-known .given i .fits in
-    looping.again (a .code .now) (a .members .now) (a .count) (a .leader) (a .fault) (length (first .clear .last .0))
-    (at .stack) (at .pc) (at .height) (at .completed) (at .inv) bytes (turn .before .before .before .loop-test .taken) _ _ _
+    looping.again rowOf (a .code .now) (a .members .now) (a .count) (a .leader) (a .fault) (length (first .clear .last .0))
+    (at .stack) (at .pc) (at .height) (at .completed) (at .inv) row-sized bytes (turn .before .before .before .loop-test .taken) _ _ _
     (rw (c .before .next .given .1) at (turn .step-at .ensures))
 
 same-length-4 : tie.Need-same-length-4 Inv-loop μ-loop
@@ -161,8 +166,9 @@ returns-4 c =
     let at = c .before .before .loop in
     let first = c .before .before .before .before .before .before in
     let a = first .before .before .before .before .before .before .args in
-    looping.ends-done (a .code .now) (a .members .now) (a .count) (a .leader) (a .fault) (a .stack .now) _
-    (first .clear .ensures) (at .stack) (at .pc) (at .height) (at .completed) (at .inv) (c .if1 .taken)
+    looping.walks _ _ _ _ _ _ _ _
+    (looping.ends-done rowOf (a .code .now) (a .members .now) (a .count) (a .leader) (a .fault) (a .stack .now) _
+    (first .clear .ensures) (at .stack) (at .pc) (at .height) (at .completed) (at .inv) (c .if1 .taken))
 
 slice-relend-prefix-clear-3 : tie.Need-slice-relend-prefix-clear-3 Inv-loop μ-loop
 slice-relend-prefix-clear-3 c = c .before .before .loop .inv .1 .high
@@ -182,9 +188,10 @@ returns-5 c =
     let at = after .before .before .loop in
     let first = after .before .before .before .before .before .before in
     let a = first .before .before .before .before .before .before .args in
-    looping.ends-past (a .code .now) (a .members .now) (a .count) (a .leader) (a .fault) (a .stack .now) _
+    looping.walks _ _ _ _ _ _ _ _
+    (looping.ends-past rowOf (a .code .now) (a .members .now) (a .count) (a .leader) (a .fault) (a .stack .now) _
     (first .clear .ensures) (at .stack) (at .pc) (at .height) (at .completed) (at .inv)
-    (after .before .loop-test .left) (after .if1 .left) _ (c .before .before .clear5 .ensures)
+    (after .before .loop-test .left) (after .if1 .left) _ (c .before .before .clear5 .ensures))
 
 pub walk-block-spec : {M : Type 1} → statement M
 walk-block-spec =

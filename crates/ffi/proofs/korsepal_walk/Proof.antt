@@ -71,8 +71,8 @@ returns-3 c =
     let read = code .before .before in
     let told = sym (read .before .before .read-case .ensures) ∙ read .places .given .1 in (
       rw (told, ← code .part-at .ensures, ← members .part-at2 .ensures)
-          (c .walk-numbers .ensures ∙ ap walkNumbers (walk .simulate-block .ensures .0)),
-      rw (told, ← code .part-at .ensures, ← members .part-at2 .ensures) (walk .simulate-block .ensures .1),
+          (c .walk-numbers .ensures ∙ ap walkNumbers (walk .simulate-block .ensures .answers)),
+      rw (told, ← code .part-at .ensures, ← members .part-at2 .ensures) (walk .simulate-block .ensures .leaves),
     )
 
 pub korsepal-walk-spec : {M : Type 1} → statement M

@@ -1,7 +1,7 @@
 -- `structs::walk_numbers` meets its contract. One arm an answer.
 -- Assumes nothing.
 use borrow.Author.Needs.{needs}
-use Rattle.block.specs.Room.{numbered}
+use Rattle.walk.specs.Room.{numbered}
 use Rattle.structs.proofs.walk_numbers.Statement.{statement}
 use Rattle.structs.proofs.walk_numbers.Tie as tie
 

@@ -7,7 +7,7 @@ use lib.ListN.{length}
 use lib.Seq.{length-take-le}
 use borrow.Author.Needs.{needs}
 use denote.Ref.{now}
-use Rattle.block.specs.Room.{blockWalk}
+use Rattle.walk.specs.Room.{blockWalk}
 use Rattle.trace.proofs.Tracing as tracing
 use Rattle.trace.proofs.trace_block.Statement.{statement}
 use Rattle.trace.proofs.trace_block.Tie as tie
@@ -36,8 +36,8 @@ reached c =
     let walked = blockWalk (now (a .code)) (now (a .members)) (a .count) (a .leader) (a .fault) room in
     let done =
     tracing.finished (a .scan) (a .depth) room walked _ _
-    (sym (c .before .before .height .given .1) ∙ walk .simulate-block .ensures .0) in
-    tracing.reaches (a .scan) (a .depth) room walked _ _ done _ (walk .simulate-block .ensures .1)
+    (sym (c .before .before .height .given .1) ∙ walk .simulate-block .ensures .answers) in
+    tracing.reaches (a .scan) (a .depth) room walked _ _ done _ (walk .simulate-block .ensures .leaves)
 
 slot-from-requires : tie.Need-slot-from-requires
 slot-from-requires c κs = reached c
@@ -62,8 +62,8 @@ returns c =
     let walked = blockWalk (now (a .code)) (now (a .members)) (a .count) (a .leader) (a .fault) room in
     let told =
     tracing.lacked (a .scan) (a .depth) room walked _ _
-    (sym (c .before .at .given .1) ∙ walk .simulate-block .ensures .0) in
-    (told .0, told .1 (walk .simulate-block .ensures .1))
+    (sym (c .before .at .given .1) ∙ walk .simulate-block .ensures .answers) in
+    (told .0, told .1 (walk .simulate-block .ensures .leaves))
 
 same-length-2 : tie.Need-same-length-2
 same-length-2 c = search needs
@@ -76,8 +76,8 @@ returns-2 c =
     let walked = blockWalk (now (a .code)) (now (a .members)) (a .count) (a .leader) (a .fault) room in
     let told =
     tracing.failing (a .scan) (a .depth) room walked _ _
-    (sym (c .before .block .given .1) ∙ walk .simulate-block .ensures .0) in
-    (told .0, told .1 (walk .simulate-block .ensures .1))
+    (sym (c .before .block .given .1) ∙ walk .simulate-block .ensures .answers) in
+    (told .0, told .1 (walk .simulate-block .ensures .leaves))
 
 same-length-3 : tie.Need-same-length-3
 same-length-3 c = search needs
@@ -91,11 +91,11 @@ returns-3 c =
     let walked = blockWalk (now (a .code)) (now (a .members)) (a .count) (a .leader) (a .fault) room in
     let done =
     tracing.finished (a .scan) (a .depth) room walked _ _
-    (sym (looked .before .before .before .height .given .1) ∙ walk .simulate-block .ensures .0) in
+    (sym (looked .before .before .before .height .given .1) ∙ walk .simulate-block .ensures .answers) in
     let size : length (walk .simulate-block .last .1 .1 .1 .1 .1 .0) ≡ room = omega arith in (
-      tracing.traces (a .scan) (a .depth) room walked _ _ done _ (walk .simulate-block .ensures .1) _
+      tracing.traces (a .scan) (a .depth) room walked _ _ done _ (walk .simulate-block .ensures .leaves) _
           (looked .slot-from .ensures),
-      tracing.emptied (a .scan) (a .depth) room walked _ _ done _ (walk .simulate-block .ensures .1) size _
+      tracing.emptied (a .scan) (a .depth) room walked _ _ done _ (walk .simulate-block .ensures .leaves) size _
           (c .before .before .clear .ensures),
     )
 

@@ -6,10 +6,10 @@ use mathlib.Core.List.{List}
 use lib.Dec.{eqb}
 use lib.ListN.{getD}
 use Rattle.basics.specs.Choice.{pick}
-use Rattle.block.specs.Answers.{NumberedInjective}
-use Rattle.block.specs.Room.{numbered}
-use Rattle.block.specs.declared.Walk.{Walk}
-use Rattle.block.specs.declared.Walk.the-variants.{Done, Failed, NoRoom}
+use Rattle.walk.specs.Answers.{NumberedInjective}
+use Rattle.walk.specs.Room.{numbered}
+use Rattle.walk.specs.declared.Walk.{Walk}
+use Rattle.walk.specs.declared.Walk.the-variants.{Done, Failed, NoRoom}
 
 -- the answer of numbers
 abbrev answered : List ℕ → Walk

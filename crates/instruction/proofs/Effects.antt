@@ -1,8 +1,7 @@
 -- What an effect is, by the tests that the code makes of its operands and its member.
 -- Assumes nothing.
 use Prim.Native.Nat.{ℕ, _+_, _≤_, _<_}
-use native.Mathlib.Omega.{arith}
-use mathlib.Core.Path.{_≡_, _∙_, sym, ap}
+use mathlib.Core.Path.{_≡_}
 use mathlib.Core.List.{List}
 use lib.ListN.{length}
 use borrow.Author.Tests.{lt-ltb, le-ltb}
@@ -11,24 +10,15 @@ use Rattle.descriptor.specs.Readers.{parameters, returnSlots, fieldSlots}
 use Rattle.descriptor.specs.declared.Params.the-variants.{Read, Unreadable as NoParams}
 use Rattle.descriptor.specs.declared.Slots.the-variants.{Slots as SlotsOf, Unreadable as NoSlots}
 use Rattle.items.specs.Text.{descriptorOf}
-use Rattle.tables.specs.Member.{memberFound}
-use Rattle.effects.specs.Lookup.{Lookup, lookupIn}
+use Rattle.index.specs.Index.{foundBy}
+use Rattle.effects.specs.Lookup.{Lookup}
 use Rattle.effects.proofs.Known.{known-none, known-some}
-use Rattle.effects.specs.Rows.{Row, aload, gets, calls, rowOf}
-use Rattle.row.specs.Code.{rowFrom}
-use Rattle.row.specs.declared.Row.{Row as CodeRow}
-use Rattle.block.specs.Inner.{bare}
-use Rattle.block.specs.Walk.{notModelled, blanks, load, Effect, fails, does, effectBy}
+use Rattle.effects.specs.Rows.{aload, gets, calls}
+use Rattle.walk.specs.Walk.{notModelled, blanks, load, Effect, fails, does, effectBy}
+use Rattle.instruction.specs.Code.{bare}
+use Rattle.instruction.specs.Lookup.{lookupBy}
 
 module _ (code : List ℕ) (pc : ℕ) where
-  -- by the row that the code found
-  pub of-row :
-      (lookup : Lookup) (answer row : CodeRow) (effect : Effect) → rowFrom answer ≡ rowOf (byteAt code pc) → answer ≡ row →
-      effect ≡ bare (effectBy lookup code pc (rowFrom row)) →
-      effect ≡ bare (effectBy lookup code pc (rowOf (byteAt code pc)))
-  of-row lookup answer row effect found same e =
-      e ∙ ap (λ (r : Row). bare (effectBy lookup code pc r)) (ap rowFrom (sym same) ∙ found)
-
   pub load-cut : (lookup : Lookup) → length code ≤ pc + 1 → fails notModelled ≡ bare (effectBy lookup code pc aload)
   load-cut lookup l = rw (le-ltb (pc + 1) (length code) l)
 
@@ -48,43 +38,41 @@ module _ (code : List ℕ) (pc : ℕ) where
   call-cut lookup takes l = rw (le-ltb (pc + 2) (length code) l)
 
   -- texts: the part that the lookup hands back
-  module _ (members : List ℕ) (count takes index : ℕ) (texts : List ℕ)
+  module _ (members : List ℕ) (count : ℕ) (table : List ℕ) (takes index : ℕ) (texts : List ℕ)
       (whole : pc + 2 < length code) (cites : index ≡ u16At code (pc + 1)) where
     abbrev Gets : Effect → Type 0
-    Gets effect = effect ≡ bare (effectBy (lookupIn members count) code pc (gets takes))
+    Gets effect = effect ≡ bare (effectBy (lookupBy members count table) code pc (gets takes))
 
     abbrev Calls : Effect → Type 0
-    Calls effect = effect ≡ bare (effectBy (lookupIn members count) code pc (calls takes))
+    Calls effect = effect ≡ bare (effectBy (lookupBy members count table) code pc (calls takes))
 
-    pub get-missing : texts ≡ memberFound members index 0 count 0 0 → length texts ≡ 0 → Gets (fails notModelled)
-    unfolding lookupIn
+    pub get-missing : texts ≡ foundBy members count table index 0 → length texts ≡ 0 → Gets (fails notModelled)
+    unfolding lookupBy
     get-missing found none = rw (lt-ltb (pc + 2) (length code) whole, ← cites, ← found, known-none texts none)
 
     pub got :
-        (slots : ℕ) → texts ≡ memberFound members index 0 count 0 0 → (length texts ≡ 0 → ⊥) →
-        slots ≡ fieldSlots (descriptorOf texts) → Gets (does (takes + 0) (blanks slots))
-    unfolding lookupIn
-    got slots found some e =
-        let none : takes + 0 ≡ takes = omega arith in
-        rw (lt-ltb (pc + 2) (length code) whole, ← cites, ← found, known-some texts some, none, e)
+        (slots : ℕ) → texts ≡ foundBy members count table index 0 → (length texts ≡ 0 → ⊥) →
+        slots ≡ fieldSlots (descriptorOf texts) → Gets (does takes (blanks slots))
+    unfolding lookupBy
+    got slots found some e = rw (lt-ltb (pc + 2) (length code) whole, ← cites, ← found, known-some texts some, e)
 
-    pub call-missing : texts ≡ memberFound members index 1 count 0 0 → length texts ≡ 0 → Calls (fails notModelled)
-    unfolding lookupIn
+    pub call-missing : texts ≡ foundBy members count table index 1 → length texts ≡ 0 → Calls (fails notModelled)
+    unfolding lookupBy
     call-missing found none = rw (lt-ltb (pc + 2) (length code) whole, ← cites, ← found, known-none texts none)
 
-    module _ (found : texts ≡ memberFound members index 1 count 0 0) (some : length texts ≡ 0 → ⊥) where
+    module _ (found : texts ≡ foundBy members count table index 1) (some : length texts ≡ 0 → ⊥) where
       pub call-unread : parameters (descriptorOf texts) ≡ NoParams → Calls (fails notModelled)
-      unfolding lookupIn
+      unfolding lookupBy
       call-unread p = rw (lt-ltb (pc + 2) (length code) whole, ← cites, ← found, known-some texts some, p)
 
       pub call-endless :
           (args end : ℕ) → parameters (descriptorOf texts) ≡ Read args end → returnSlots (descriptorOf texts) ≡ NoSlots →
           Calls (fails notModelled)
-      unfolding lookupIn
+      unfolding lookupBy
       call-endless args end p r = rw (lt-ltb (pc + 2) (length code) whole, ← cites, ← found, known-some texts some, p, r)
 
       pub called :
           (args end gives : ℕ) → parameters (descriptorOf texts) ≡ Read args end →
           returnSlots (descriptorOf texts) ≡ SlotsOf gives → Calls (does (takes + args) (blanks gives))
-      unfolding lookupIn
+      unfolding lookupBy
       called args end gives p r = rw (lt-ltb (pc + 2) (length code) whole, ← cites, ← found, known-some texts some, p, r)

@@ -2,15 +2,16 @@
 -- exceeds the lent stack", at the first such index; and what the cells hold at exit.
 -- Assumes nothing.
 use Prim.Native.Nat.{ℕ, zero, suc, _-_}
+use mathlib.Core.Path.{_≡_}
 use mathlib.Core.List.{List, [], _∷_, _++_}
 use lib.Dec.{leb, ltb}
 use lib.ListN.{length, replicate}
 use Rattle.basics.specs.Choice.{pick}
 use Rattle.effects.specs.Lookup.{Lookup, lookupIn}
 use Rattle.effects.specs.Rows.{Row, rowOf}
-use Rattle.block.specs.Walk.{Marks, cells, Outcome, stops, goes, passes, Walked, done, failed, step, walk}
-use Rattle.block.specs.declared.Walk.{Walk}
-use Rattle.block.specs.declared.Walk.the-variants.{Done, Failed, NoRoom}
+use Rattle.walk.specs.Walk.{Marks, cells, Outcome, stops, goes, passes, Walked, done, failed, step, walk}
+use Rattle.walk.specs.declared.Walk.{Walk}
+use Rattle.walk.specs.declared.Walk.the-variants.{Done, Failed, NoRoom}
 
 -- an instruction that the walk completed, and the height after it
 pub record Completed : Type 0 where
@@ -43,11 +44,15 @@ abbrev pub judged : {A : Type 0} → ℕ → List Completed → Walked A → Roo
 judged room [] walked = fits walked
 judged room (c ∷ cs) walked = pick (leb (c .height) room) (judged room cs walked) (lacks (c .index))
 
--- document 01's walk over the parts of a case: the code, a member run of so many members, the leader, the fault, the room
+-- the walk over the parts of a case by a table of rows: the code, a member run of so many members, the leader, the fault, the room
+abbrev pub blockWalkBy : (ℕ → Row) → List ℕ → List ℕ → ℕ → ℕ → ℕ → ℕ → Roomed ℕ
+blockWalkBy rows code members count leader fault room =
+    judged room (completed cells rows (lookupIn members count) code fault leader)
+    (walk cells rows (lookupIn members count) code fault leader)
+
+-- document 01's
 unfoldable pub blockWalk : List ℕ → List ℕ → ℕ → ℕ → ℕ → ℕ → Roomed ℕ
-blockWalk code members count leader fault room =
-    judged room (completed cells rowOf (lookupIn members count) code fault leader)
-    (walk cells rowOf (lookupIn members count) code fault leader)
+blockWalk code members count leader fault room = blockWalkBy rowOf code members count leader fault room
 
 -- what the walk alone answers
 abbrev pub answerOf : Roomed ℕ → Walk
@@ -64,6 +69,11 @@ abbrev pub cellsOf : ℕ → Roomed ℕ → List ℕ
 cellsOf room (lacks index) = replicate room 0
 cellsOf room (fits (done slots count)) = shown room slots
 cellsOf room (fits (failed count reason)) = replicate room 0
+
+-- what a walk over the cells of a lent stack answers, and the cells that it leaves there
+pub record Walks (code members : List ℕ) (count leader fault : ℕ) (stack : List ℕ) (answer : Walk) (left : List ℕ) : Type 0 where
+  pub answers : answer ≡ answerOf (blockWalk code members count leader fault (length stack))
+  pub leaves : left ≡ cellsOf (length stack) (blockWalk code members count leader fault (length stack))
 
 -- an answer as numbers: 0 with height and count, 1 with the count, document 01's 3 with the index
 unfoldable pub numbered : Walk → List ℕ

@@ -1,0 +1,3 @@
+pub mod Effects
+pub mod Laws
+pub mod Slots

@@ -1,0 +1,133 @@
+// What an instruction does to the slots, its operands read (document 01, "The walk").
+use descriptor::Params;
+use descriptor::Slots;
+use row::Row;
+ghost use mathlib.Core.Path.{_≡_};
+ghost use Prim.Native.Nat.{_-_, _≤_};
+ghost use lib.ListN.{length};
+ghost use Rattle.effects.specs.Rows.{rowOf, aload as aloadRow, gets as getsRow, calls as callsRow};
+ghost use Rattle.walk.specs.Walk.{effectBy};
+ghost use Rattle.instruction.specs.Code.{effectFrom, bare};
+ghost use Rattle.instruction.specs.Lookup.{nothing, lookupBy};
+
+// What an instruction does to the slots.
+pub enum Effect {
+    Fails,
+    // Takes slots and pushes opaque ones.
+    Opaque { takes: usize, gives: usize },
+    // Pushes the load of a local.
+    Load { local: usize },
+    Dup,
+    Dup2,
+    Swap,
+}
+
+// How many bytes there are from an index on.
+fn bytes_from(code: &[u8], pc: usize) -> usize
+    ensures { λ r. ⌜ r ≡ length (now (code .entry)) - pc ⌝ }
+{
+    if code.len() < pc {
+        return 0;
+    }
+    code.len() - pc
+}
+
+// The effect of `aload`, which names its local by a byte.
+fn load_effect(code: &[u8], pc: usize) -> Effect
+    ensures { λ r. ⌜ effectFrom r ≡ bare (effectBy nothing (now (code .entry)) pc aloadRow) ⌝ }
+{
+    if bytes_from(code, pc) < 2 {
+        return Effect::Fails;
+    }
+    Effect::Load {
+        local: code[pc + 1] as usize,
+    }
+}
+
+// The effect of reading the field that the instruction at pc cites.
+fn get_effect(
+    code: &[u8],
+    members: &[u8],
+    count: usize,
+    table: &[usize],
+    pc: usize,
+    takes: usize,
+) -> Effect
+    ensures { λ r. ⌜ effectFrom r ≡ bare (effectBy (lookupBy (now (members .entry)) count (now (table .entry)))
+        (now (code .entry)) pc (getsRow takes)) ⌝ }
+{
+    if bytes_from(code, pc) < 3 {
+        return Effect::Fails;
+    }
+    let texts = index::find_indexed(members, count, table, reads::read_u16(code, pc + 1), 0);
+    if texts.len() == 0 {
+        return Effect::Fails;
+    }
+    Effect::Opaque {
+        takes,
+        gives: descriptor::slots_of_field_type(items::descriptor_of(texts)),
+    }
+}
+
+// The effect of calling the method that the instruction at pc cites.
+fn call_effect(
+    code: &[u8],
+    members: &[u8],
+    count: usize,
+    table: &[usize],
+    pc: usize,
+    takes: usize,
+) -> Effect
+    requires { ⌜ takes ≤ 1 ⌝ }
+    ensures { λ r. ⌜ effectFrom r ≡ bare (effectBy (lookupBy (now (members .entry)) count (now (table .entry)))
+        (now (code .entry)) pc (callsRow takes)) ⌝ }
+{
+    if bytes_from(code, pc) < 3 {
+        return Effect::Fails;
+    }
+    let texts = index::find_indexed(members, count, table, reads::read_u16(code, pc + 1), 1);
+    if texts.len() == 0 {
+        return Effect::Fails;
+    }
+    let signature = items::descriptor_of(texts);
+    let Params::Read {
+        slots: args,
+        end: _,
+    } = descriptor::parse_method_params(signature)
+    else {
+        return Effect::Fails;
+    };
+    let Slots::Slots(gives) = descriptor::return_type_slots(signature) else {
+        return Effect::Fails;
+    };
+    Effect::Opaque {
+        takes: takes + args,
+        gives,
+    }
+}
+
+// The effect of the instruction at pc, whose opcode is given. Members are looked up by a table of the run.
+pub fn effect_of(
+    op: u8,
+    code: &[u8],
+    members: &[u8],
+    count: usize,
+    table: &[usize],
+    pc: usize,
+) -> Effect
+    ensures { λ r. ⌜ effectFrom r ≡ bare (effectBy (lookupBy (now (members .entry)) count (now (table .entry)))
+        (now (code .entry)) pc (rowOf op)) ⌝ }
+{
+    match row::row_of(op) {
+        Row::Unmodelled => Effect::Fails,
+        Row::Opaque { takes, gives } => Effect::Opaque { takes, gives },
+        Row::Aload => load_effect(code, pc),
+        Row::AloadOf { local } => Effect::Load { local },
+        Row::Dup => Effect::Dup,
+        Row::Dup2 => Effect::Dup2,
+        Row::Swap => Effect::Swap,
+        Row::Keeps => Effect::Opaque { takes: 0, gives: 0 },
+        Row::Gets { takes } => get_effect(code, members, count, table, pc, takes),
+        Row::Calls { takes } => call_effect(code, members, count, table, pc, takes),
+    }
+}

@@ -1,0 +1,4 @@
+pub mod Answers
+pub mod Room
+pub mod Walk
+pub mod Worked
