@@ -18,7 +18,7 @@ use Rattle.greatest.specs.Greatest.{greatest as greatestOf}
 use Rattle.leader.specs.Scan.{Instructions, ended as scanEnded, unmeasured, instruction, scanStep, scanFrom, instructions, scanCount, leadersOf, answered, blockLeader}
 use Rattle.leader.specs.declared.Scan.{Scan}
 use Rattle.leader.specs.declared.Scan.the-variants.{Leader, Unmeasured}
-use Rattle.items.specs.Number.{greatest}
+use Rattle.number.specs.Number.{greatest}
 use Rattle.casefile.specs.Parts.{Parts, partsOf}
 use Rattle.casefile.specs.Whole.{caseOf}
 use Rattle.casefile.specs.declared.Case.{Case}

@@ -4,7 +4,7 @@
 use Prim.Native.Nat.{ℕ, _≤_, _<_}
 use mathlib.Core.List.{List}
 use Rattle.basics.specs.Bytes.{AreBytes}
-use Rattle.items.specs.Number.{greatest}
+use Rattle.number.specs.Number.{greatest}
 use Rattle.report.specs.Report.{reportOf}
 use Rattle.answer.specs.declared.Report.{Report}
 use Rattle.answer.specs.declared.Report.the-variants.{Message, NoMessage, Broken, NoRoom, NoOutput, TooLong}

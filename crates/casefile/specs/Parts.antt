@@ -2,7 +2,7 @@
 -- Assumes nothing.
 use Prim.Native.Nat.{ℕ}
 use mathlib.Core.List.{List, _++_}
-use Rattle.items.specs.Number.{numberBytes}
+use Rattle.number.specs.Number.{numberBytes}
 use Rattle.items.specs.Text.{textBytes, partAt}
 use Rattle.casefile.specs.declared.Places.{Places}
 

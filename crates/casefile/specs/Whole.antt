@@ -1,16 +1,41 @@
 -- The whole case (document 01, "The case" and answers 2 and 5 of "Numbers returned").
 -- Assumes nothing.
-use Prim.Native.Nat.{ℕ, _+_}
+use Prim.Native.Nat.{ℕ, _+_, _-_}
 use mathlib.Core.List.{List, [], _∷_}
 use lib.Dec.{ltb}
 use lib.ListN.{length}
 use Rattle.basics.specs.Choice.{pick}
-use Rattle.items.specs.Number.{greatest, numberAt, thenNumber}
+use Rattle.number.specs.Number.{greatest, numberAt, thenNumber}
 use Rattle.items.specs.Text.{textAt, thenText}
-use Rattle.tables.specs.Tables.{tablesAt, thenTables}
+use Rattle.tables.specs.Layout.{membersThen, recordsThen, ended, runBy, thenRun}
 use Rattle.casefile.specs.declared.Case.{Case}
 use Rattle.casefile.specs.declared.Case.the-variants.{Parts, Wrong, TooLong}
 use Rattle.casefile.specs.declared.Places.{Places}
+use Rattle.casefile.specs.declared.TablePlaces.{TablePlaces}
+use Rattle.casefile.specs.declared.Tables.{Tables}
+use Rattle.casefile.specs.declared.Tables.the-variants as tables
+
+-- "member count, members, record count, local records, and nothing after"; "excess bytes at the first one"
+unfoldable pub tablesAt : List ℕ → ℕ → Tables
+tablesAt bytes at =
+    thenNumber (numberAt greatest bytes at) (tables.Wrong at) (λ memberCount members.
+    thenRun (runBy (membersThen memberCount 0 ended) bytes members) (λ wrong. tables.Wrong wrong) (λ membersEnd.
+    thenNumber (numberAt greatest bytes membersEnd) (tables.Wrong membersEnd) (λ recordCount records.
+    thenRun (runBy (recordsThen recordCount ended) bytes records) (λ wrong. tables.Wrong wrong) (λ recordsEnd.
+    pick (ltb recordsEnd (length bytes)) (tables.Wrong recordsEnd)
+    (tables.Read
+    (record {
+      members = members;
+      «members_length» = membersEnd - members;
+      «member_count» = memberCount;
+      records = records;
+      «records_length» = recordsEnd - records;
+      «record_count» = recordCount;
+    }))))))
+
+abbrev pub thenTables : {A : Type 0} → Tables → (ℕ → A) → (TablePlaces → A) → A
+thenTables (tables.Read places) wrong following = following places
+thenTables (tables.Wrong place) wrong following = wrong place
 
 -- "A case holds, in order: access flags, faulting index, code text, name signature text, .."
 unfoldable pub placesIn : List ℕ → Case

@@ -1,15 +1,32 @@
 // Reading a case (document 01, "The case"): one pass from the first byte to the last, no copy, no byte looked at twice.
 // Any bytes are taken. What cannot be read is answered, never assumed away.
-use items::Number;
 use items::Text;
-use items::case_number;
 use items::read_text;
-use tables::Tables;
+use number::Number;
+use number::case_number;
+use tables::Run;
 ghost use mathlib.Core.Path.{_≡_};
-ghost use Rattle.casefile.specs.Whole.{caseOf};
+ghost use Rattle.casefile.specs.Whole.{tablesAt, caseOf};
 
 // The greatest length of a case.
 const LONGEST: usize = 1048576;
+
+// Where the member run and the record run lie in a case, and their counts.
+pub struct TablePlaces {
+    pub members: usize,
+    pub members_length: usize,
+    pub member_count: usize,
+    pub records: usize,
+    pub records_length: usize,
+    pub record_count: usize,
+}
+
+// What reading the two runs answers.
+pub enum Tables {
+    Read(TablePlaces),
+    // The place of the first wrong item.
+    Wrong(usize),
+}
 
 // Where the parts of a case lie.
 pub struct Places {
@@ -36,6 +53,43 @@ pub enum Case {
     TooLong,
 }
 
+// Member count, members, record count, local records, and nothing after.
+fn read_tables(bytes: &[u8], at: usize) -> Tables
+    ensures { λ r. ⌜ r ≡ tablesAt (now (bytes .entry)) at ⌝ }
+{
+    let Number::Value(member_count, members) = case_number(bytes, at) else {
+        return Tables::Wrong(at);
+    };
+    let member_run = tables::read_members(bytes, members, member_count);
+    let members_end = match member_run {
+        Run::End(end) => end,
+        Run::Wrong(wrong) => {
+            return Tables::Wrong(wrong);
+        }
+    };
+    let Number::Value(record_count, records) = case_number(bytes, members_end) else {
+        return Tables::Wrong(members_end);
+    };
+    let record_run = tables::read_records(bytes, records, record_count);
+    let records_end = match record_run {
+        Run::End(end) => end,
+        Run::Wrong(wrong) => {
+            return Tables::Wrong(wrong);
+        }
+    };
+    if records_end < bytes.len() {
+        return Tables::Wrong(records_end);
+    }
+    Tables::Read(TablePlaces {
+        members,
+        members_length: members_end - members,
+        member_count,
+        records,
+        records_length: records_end - records,
+        record_count,
+    })
+}
+
 // Where the parts of a case lie, or the place of its first wrong item, or that it is too long.
 pub fn read_case(bytes: &[u8]) -> Case
     ensures { λ r. ⌜ r ≡ caseOf (now (bytes .entry)) ⌝ }
@@ -56,7 +110,7 @@ pub fn read_case(bytes: &[u8]) -> Case
     let Text::Place(signature, signature_length) = read_text(bytes, signature_at) else {
         return Case::Wrong(signature_at);
     };
-    match tables::read_tables(bytes, signature + signature_length) {
+    match read_tables(bytes, signature + signature_length) {
         Tables::Read(tables) => Case::Parts(Places {
             flags,
             fault,

@@ -11,29 +11,28 @@ use lib.ListN.{length, length-append}
 use borrow.Author.Tests.{lt-ltb, le-ltb, ltb-true, ltb-false}
 use Rattle.basics.specs.Bytes.{AreBytes}
 use Rattle.basics.specs.Choice.{pick}
-use Rattle.items.specs.Number.{greatest, numberBytes, numberAt, thenNumber}
+use Rattle.number.specs.Number.{greatest, numberBytes, numberAt, thenNumber}
 use Rattle.items.specs.Text.{textBytes, textAt, thenText}
-use Rattle.items.specs.declared.Number.{Number}
-use Rattle.items.specs.declared.Number.the-variants.{Value, NotNumber}
+use Rattle.number.specs.declared.Number.{Number}
+use Rattle.number.specs.declared.Number.the-variants.{Value, NotNumber}
 use Rattle.items.specs.declared.Text.{Text}
 use Rattle.items.specs.declared.Text.the-variants.{Place, NotText}
 use Rattle.tables.specs.Layout.{Layout, number, text, ended, any, memberThen, membersThen, recordThen, recordsThen, tablesLayout, caseLayout, runBy, thenRun}
 use Rattle.tables.specs.Member.{memberAt, thenMember}
 use Rattle.tables.specs.LocalRecord.{recordAt, thenRecord}
-use Rattle.tables.specs.Tables.{tablesAt}
 use Rattle.tables.specs.declared.LocalRecord.{LocalRecord}
 use Rattle.tables.specs.declared.LocalRecord.the-variants as local
 use Rattle.tables.specs.declared.Member.{Member}
 use Rattle.tables.specs.declared.Member.the-variants as member
 use Rattle.tables.specs.declared.Run.{Run}
 use Rattle.tables.specs.declared.Run.the-variants.{End, Wrong}
-use Rattle.tables.specs.declared.Tables.{Tables}
-use Rattle.tables.specs.declared.Tables.the-variants as tables
 use Rattle.tables.proofs.Within.{run-within}
 use Rattle.tables.proofs.Runs.{member-then, record-then}
-use Rattle.casefile.specs.Whole.{placesIn, longest, caseOf}
+use Rattle.casefile.specs.Whole.{tablesAt, placesIn, longest, caseOf}
 use Rattle.casefile.specs.declared.Case.{Case}
 use Rattle.casefile.specs.declared.Case.the-variants as answer
+use Rattle.casefile.specs.declared.Tables.{Tables}
+use Rattle.casefile.specs.declared.Tables.the-variants as tables
 use Rattle.cases.specs.Standing.{Stands}
 use Rattle.cases.specs.FirstWrong.{Reached, start, afterNumber, afterText, NothingRight, FirstWrong, FirstWrongDeclared}
 use Rattle.cases.proofs.Items.{number-on, text-on}

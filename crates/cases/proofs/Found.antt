@@ -12,7 +12,7 @@ use lib.Dec.{eqb, ltb, leb}
 use lib.ListN.{length, take, drop, length-append}
 use borrow.Author.Tests.{lt-ltb, le-leb, eq-eqb, ne-eqb}
 use Rattle.basics.specs.Choice.{pick}
-use Rattle.items.specs.Number.{greatest, groupOrMore, groupsOf, numberBytes, numberAt}
+use Rattle.number.specs.Number.{greatest, groupOrMore, groupsOf, numberBytes, numberAt}
 use Rattle.items.specs.Text.{textBytes, textAt, textPart, afterText, classOf, nameOf, descriptorOf}
 use Rattle.tables.specs.Layout.{ended, threeTexts, runBy}
 use Rattle.tables.specs.Member.{memberAt, textsOf, memberFound}

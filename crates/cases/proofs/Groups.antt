@@ -10,7 +10,7 @@ use lib.Dec.{ltb}
 use lib.ListN.{length, take, drop}
 use borrow.Author.Tests.{lt-ltb, le-ltb, ltb-true, ltb-false}
 use Rattle.basics.specs.Bytes.{AreBytes}
-use Rattle.items.specs.Number.{greatest, groupOrMore, groupsOf, numberBytes}
+use Rattle.number.specs.Number.{greatest, groupOrMore, groupsOf, numberBytes}
 use Rattle.items.specs.Text.{textBytes, textAt}
 use Rattle.items.specs.declared.Text.the-variants.{Place}
 use Rattle.cases.specs.Item.{Groups, last, before, NumberDeclared, TextDeclared}

@@ -11,10 +11,10 @@ use lib.ListN.{length, take, drop, length-append}
 use borrow.Author.Tests.{lt-ltb, le-leb, ltb-true, leb-true}
 use Rattle.basics.specs.Bytes.{AreBytes}
 use Rattle.basics.specs.Choice.{pick}
-use Rattle.items.specs.Number.{greatest, numberBytes, numberAt, thenNumber}
+use Rattle.number.specs.Number.{greatest, numberBytes, numberAt, thenNumber}
 use Rattle.items.specs.Text.{textBytes, textAt, thenText}
-use Rattle.items.specs.declared.Number.{Number}
-use Rattle.items.specs.declared.Number.the-variants.{Value, NotNumber}
+use Rattle.number.specs.declared.Number.{Number}
+use Rattle.number.specs.declared.Number.the-variants.{Value, NotNumber}
 use Rattle.items.specs.declared.Text.{Text}
 use Rattle.items.specs.declared.Text.the-variants.{Place, NotText}
 use Rattle.tables.specs.Layout.{Layout, number, text, ended, any, threeTexts, memberThen, membersThen, recordThen, recordsThen, runBy}

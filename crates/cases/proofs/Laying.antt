@@ -11,19 +11,18 @@ use lib.ListN.{length, take, drop, length-append}
 use borrow.Author.Tests.{le-ltb, ltb-false}
 use Rattle.basics.specs.Bytes.{AreBytes}
 use Rattle.basics.specs.Choice.{pick}
-use Rattle.items.specs.Number.{greatest, numberBytes, numberAt}
+use Rattle.number.specs.Number.{greatest, numberBytes, numberAt}
 use Rattle.items.specs.Text.{textBytes, textAt}
 use Rattle.tables.specs.Layout.{Layout, number, text, ended, any, membersThen, recordsThen, tablesLayout, caseLayout, runBy}
-use Rattle.tables.specs.Tables.{tablesAt}
 use Rattle.tables.specs.declared.Run.{Run}
 use Rattle.tables.specs.declared.Run.the-variants.{End, Wrong}
-use Rattle.tables.specs.declared.TablePlaces.{TablePlaces}
-use Rattle.tables.specs.declared.Tables.the-variants as tables
 use Rattle.casefile.specs.Parts.{Parts, caseBytes, partsOf}
-use Rattle.casefile.specs.Whole.{placesIn, longest, caseOf}
+use Rattle.casefile.specs.Whole.{tablesAt, placesIn, longest, caseOf}
 use Rattle.casefile.specs.declared.Case.{Case}
 use Rattle.casefile.specs.declared.Case.the-variants as answer
 use Rattle.casefile.specs.declared.Places.{Places}
+use Rattle.casefile.specs.declared.TablePlaces.{TablePlaces}
+use Rattle.casefile.specs.declared.Tables.the-variants as tables
 use Rattle.cases.specs.LaidOut.{Member, membersBytes, MemberRun, Local, recordsBytes, RecordRun, LaidOut, ReadsBack, AcceptedIsLaidOut}
 use Rattle.cases.specs.Standing.{Stands}
 use Rattle.cases.proofs.Declared.{Verdict, allRight, wrongAt, onRun, onCase, case-run, fits-of, of-short}

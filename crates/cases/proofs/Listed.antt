@@ -6,7 +6,7 @@ use native.Mathlib.Omega.{arith}
 use mathlib.Core.Path.{_≡_, refl, _∙_, sym, ap, ap₂, subst}
 use mathlib.Core.List.{List, [], _∷_, _++_, append-nil}
 use lib.ListN.{length, take, drop, length-append}
-use Rattle.items.specs.Number.{greatest, numberBytes}
+use Rattle.number.specs.Number.{greatest, numberBytes}
 use Rattle.items.specs.Text.{textBytes}
 use Rattle.tables.specs.LocalRecord.{recordAt, recordsIn}
 use Rattle.tables.specs.declared.LocalRecord.the-variants.{Read}

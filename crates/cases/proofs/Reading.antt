@@ -12,13 +12,13 @@ use lib.Seq.{drop-drop, drop-append-seam, take-append-seam, getD-drop}
 use borrow.Author.Tests.{lt-ltb, le-ltb, le-leb, lt-leb, ne-eqb, ltb-true, ltb-false, eqb-false, leb-true}
 use Rattle.basics.specs.Bytes.{AreBytes}
 use Rattle.basics.specs.Choice.{pick}
-use Rattle.items.specs.Number.{greatest, groupsOf, numberBytes, further, grouped, numberFrom, limited, numberAt, thenNumber}
+use Rattle.number.specs.Number.{greatest, groupsOf, numberBytes, further, grouped, numberFrom, limited, numberAt, thenNumber}
 use Rattle.items.specs.Text.{textBytes, textAt}
-use Rattle.items.specs.declared.Number.{Number}
-use Rattle.items.specs.declared.Number.the-variants.{Value, NotNumber}
+use Rattle.number.specs.declared.Number.{Number}
+use Rattle.number.specs.declared.Number.the-variants.{Value, NotNumber}
 use Rattle.items.specs.declared.Text.{Text}
 use Rattle.items.specs.declared.Text.the-variants.{Place, NotText}
-use Rattle.items.proofs.Laws.{number-within}
+use Rattle.number.proofs.Laws.{number-within}
 use Rattle.cases.specs.Standing.{Stands}
 
 -- ---- what stands at a place

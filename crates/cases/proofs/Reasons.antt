@@ -13,7 +13,7 @@ use lib.ListN.{length, getD, take, drop, length-append, length-take, length-drop
 use lib.Seq.{getD-drop}
 use borrow.Author.Tests.{ltb-true, ltb-false, leb-true, leb-false}
 use Rattle.basics.specs.Bytes.{byteAt, AreBytes}
-use Rattle.items.specs.Number.{greatest, numberBytes}
+use Rattle.number.specs.Number.{greatest, numberBytes}
 use Rattle.items.specs.Text.{textBytes}
 use Rattle.tables.specs.Layout.{Layout, number, text, ended, any}
 use Rattle.cases.specs.FirstWrong.{NothingRight, FirstWrong}

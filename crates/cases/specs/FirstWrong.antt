@@ -9,7 +9,7 @@ use mathlib.Core.List.{List}
 use lib.Dec.{T}
 use lib.ListN.{length}
 use Rattle.basics.specs.Bytes.{AreBytes}
-use Rattle.items.specs.Number.{greatest, numberBytes}
+use Rattle.number.specs.Number.{greatest, numberBytes}
 use Rattle.items.specs.Text.{textBytes}
 use Rattle.tables.specs.Layout.{Layout, number, text, ended, caseLayout}
 use Rattle.casefile.specs.Whole.{longest, caseOf}

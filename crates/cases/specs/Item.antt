@@ -7,9 +7,9 @@ use mathlib.Core.Path.{_≡_}
 use mathlib.Core.List.{List, [], _∷_}
 use lib.ListN.{length, take, drop}
 use Rattle.basics.specs.Bytes.{AreBytes}
-use Rattle.items.specs.Number.{greatest, numberBytes, numberAt}
+use Rattle.number.specs.Number.{greatest, numberBytes, numberAt}
 use Rattle.items.specs.Text.{textBytes, textAt}
-use Rattle.items.specs.declared.Number.the-variants.{Value}
+use Rattle.number.specs.declared.Number.the-variants.{Value}
 use Rattle.items.specs.declared.Text.the-variants.{Place}
 use Rattle.cases.specs.Standing.{Stands}
 

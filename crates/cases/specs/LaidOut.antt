@@ -6,7 +6,7 @@ use mathlib.Core.Path.{_≡_}
 use mathlib.Core.List.{List, [], _∷_, _++_}
 use lib.ListN.{length}
 use Rattle.basics.specs.Bytes.{AreBytes}
-use Rattle.items.specs.Number.{greatest, numberBytes}
+use Rattle.number.specs.Number.{greatest, numberBytes}
 use Rattle.items.specs.Text.{textBytes}
 use Rattle.casefile.specs.Parts.{Parts, caseBytes, partsOf}
 use Rattle.casefile.specs.Whole.{longest, caseOf}

@@ -7,7 +7,7 @@ use mathlib.Core.Bool.{Bool, false}
 use mathlib.Core.List.{List}
 use lib.ListN.{length}
 use Rattle.basics.specs.Bytes.{byteAt, AreBytes}
-use Rattle.items.specs.Number.{greatest, numberBytes}
+use Rattle.number.specs.Number.{greatest, numberBytes}
 use Rattle.tables.specs.Layout.{Layout, number, text, ended, any}
 use Rattle.cases.specs.FirstWrong.{FirstWrong}
 use Rattle.cases.specs.Item.{Groups}

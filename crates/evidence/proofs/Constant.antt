@@ -19,13 +19,12 @@ use Rattle.leader.specs.Targets.{leadersAt}
 use Rattle.fieldtype.specs.Search.{firstIn, firstFrom}
 use Rattle.text.specs.Decimal.{digits, decimal}
 use Rattle.text.specs.Writing.{over}
-use Rattle.items.specs.Number.{numberFrom, numberAt}
+use Rattle.number.specs.Number.{numberFrom, numberAt}
 use Rattle.items.specs.Text.{textAt}
 use Rattle.tables.specs.Layout.{membersThen, recordsThen, runBy}
 use Rattle.tables.specs.LocalRecord.{recordsIn}
-use Rattle.tables.specs.Tables.{tablesAt}
 use Rattle.casefile.specs.Parts.{partsOf}
-use Rattle.casefile.specs.Whole.{placesIn, caseOf}
+use Rattle.casefile.specs.Whole.{tablesAt, placesIn, caseOf}
 use Rattle.effects.specs.Depth.{ruleOf, depthOf}
 use Rattle.effects.specs.Rows.{rowOf}
 use Rattle.walk.specs.Room.{completedFrom, completed, blockWalk}

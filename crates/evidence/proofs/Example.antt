@@ -5,12 +5,11 @@ use native.Mathlib.Omega.{arith}
 use mathlib.Core.Path.{_≡_, refl}
 use Rattle.basics.proofs.Bytes.{all-below}
 use Rattle.jvms.specs.Machine.{Pool}
-use Rattle.items.specs.Number.{numberFrom, numberAt}
+use Rattle.number.specs.Number.{numberFrom, numberAt}
 use Rattle.items.specs.Text.{textAt}
 use Rattle.tables.specs.Layout.{membersThen, recordsThen, runBy}
-use Rattle.tables.specs.Tables.{tablesAt}
 use Rattle.casefile.specs.Parts.{partsOf}
-use Rattle.casefile.specs.Whole.{placesIn, caseOf}
+use Rattle.casefile.specs.Whole.{tablesAt, placesIn, caseOf}
 use Rattle.casefile.specs.declared.Case.the-variants as cases
 use Rattle.effects.specs.Lookup.{lookupIn}
 use Rattle.truth.specs.Condition.{Described}

@@ -5,7 +5,7 @@ use native.Mathlib.Omega.{arith}
 use mathlib.Core.Path.{_≡_, refl}
 use Rattle.bounds.proofs.Counts.{counts-small}
 use Rattle.bounds.specs.Counts.{Small}
-use Rattle.items.specs.Number.{greatest}
+use Rattle.number.specs.Number.{greatest}
 use Rattle.structs.specs.Structs.{low, reportNumbers}
 use Rattle.answer.specs.Answer.{numbered}
 use Rattle.report.specs.Report.{reportOf}

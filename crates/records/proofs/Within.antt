@@ -7,13 +7,14 @@ use mathlib.Core.List.{List, [], _∷_}
 use mathlib.Core.Path.{_≡_, refl, sym, subst}
 use lib.ListN.{length}
 use Rattle.basics.specs.Choice.{pick}
-use Rattle.items.specs.Number.{greatest, numberAt, numberWithin, thenNumber}
+use Rattle.number.specs.Number.{greatest, numberAt, numberWithin, thenNumber}
 use Rattle.items.specs.Text.{textAt, textWithin, thenText}
-use Rattle.items.specs.declared.Number.{Number}
-use Rattle.items.specs.declared.Number.the-variants.{Value, NotNumber}
+use Rattle.number.specs.declared.Number.{Number}
+use Rattle.number.specs.declared.Number.the-variants.{Value, NotNumber}
 use Rattle.items.specs.declared.Text.{Text}
 use Rattle.items.specs.declared.Text.the-variants.{Place, NotText}
-use Rattle.items.proofs.Laws.{number-within, text-within}
+use Rattle.number.proofs.Laws.{number-within}
+use Rattle.items.proofs.Laws.{text-within}
 use Rattle.tables.specs.LocalRecord.{recordAt, recordsIn, recordWithin, thenRecord}
 use Rattle.tables.specs.declared.LocalRecord.{LocalRecord}
 use Rattle.tables.specs.declared.LocalRecord.the-variants.{Read, Wrong}

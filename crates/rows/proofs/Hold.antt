@@ -23,14 +23,13 @@ use Rattle.refusal.specs.Refusal.{numberOf}
 use Rattle.jdescriptor.specs.Answer.{answer}
 use Rattle.judging.specs.Judged.{numbered}
 use Rattle.judging.specs.Reading.{typeReading, returnAt, parametersAt, methodReading}
-use Rattle.items.specs.Number.{numberFrom, numberAt}
+use Rattle.number.specs.Number.{numberFrom, numberAt}
 use Rattle.items.specs.Text.{textAt, textPart, afterText, classOf, nameOf, descriptorOf}
 use Rattle.tables.specs.Layout.{membersThen, recordsThen, runBy}
 use Rattle.tables.specs.LocalRecord.{recordsIn}
 use Rattle.tables.specs.Member.{memberAt, memberFound}
-use Rattle.tables.specs.Tables.{tablesAt}
 use Rattle.casefile.specs.Parts.{partsOf}
-use Rattle.casefile.specs.Whole.{placesIn, caseOf}
+use Rattle.casefile.specs.Whole.{tablesAt, placesIn, caseOf}
 use Rattle.effects.specs.Depth.{ruleOf, depthOf}
 use Rattle.effects.specs.Lookup.{lookupIn}
 use Rattle.effects.specs.Rows.{rowOf}

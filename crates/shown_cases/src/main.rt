@@ -2,8 +2,8 @@
 // which an item can be wrong, and the limits of numbers, texts and the case.
 use casefile::Case;
 use casefile::Places;
-use items::Number;
 use libc::STDOUT_FILENO;
+use number::Number;
 use tables::LocalRecord;
 
 fn say(text: &[u8]) {
@@ -55,7 +55,7 @@ fn show(what: &[u8], bytes: &[u8]) {
 // The number that the bytes start with.
 fn show_number(what: &[u8], bytes: &[u8], limit: usize) {
     say(what);
-    match items::read_number(bytes, 0, limit) {
+    match number::read_number(bytes, 0, limit) {
         Number::Value(v, next) => {
             say_number(b": ", v);
             say_number(b", then ", next);

@@ -10,10 +10,10 @@ use mathlib.Core.List.{List, [], _∷_}
 use lib.Dec.{eqb, ltb, leb}
 use borrow.Author.Tests.{ne-eqb, ltb-true}
 use Rattle.basics.specs.Choice.{pick}
-use Rattle.items.specs.Number.{greatest, numberAt, thenNumber}
+use Rattle.number.specs.Number.{greatest, numberAt, thenNumber}
 use Rattle.items.specs.Text.{textAt, thenText}
-use Rattle.items.specs.declared.Number.{Number}
-use Rattle.items.specs.declared.Number.the-variants.{Value, NotNumber}
+use Rattle.number.specs.declared.Number.{Number}
+use Rattle.number.specs.declared.Number.the-variants.{Value, NotNumber}
 use Rattle.items.specs.declared.Text.{Text}
 use Rattle.items.specs.declared.Text.the-variants.{Place, NotText}
 use Rattle.tables.specs.Layout.{Layout, text, threeTexts, memberThen, membersThen, recordThen, recordsThen, ended, runBy, thenRun}

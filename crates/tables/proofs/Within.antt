@@ -6,13 +6,14 @@ use mathlib.Core.Bool.{Bool, true, false}
 use mathlib.Core.List.{List}
 use lib.ListN.{length}
 use Rattle.basics.specs.Choice.{pick}
-use Rattle.items.specs.Number.{greatest, numberAt, numberWithin, thenNumber}
+use Rattle.number.specs.Number.{greatest, numberAt, numberWithin, thenNumber}
 use Rattle.items.specs.Text.{textAt, thenText, textWithin}
-use Rattle.items.specs.declared.Number.{Number}
-use Rattle.items.specs.declared.Number.the-variants.{Value, NotNumber}
+use Rattle.number.specs.declared.Number.{Number}
+use Rattle.number.specs.declared.Number.the-variants.{Value, NotNumber}
 use Rattle.items.specs.declared.Text.{Text}
 use Rattle.items.specs.declared.Text.the-variants.{Place, NotText}
-use Rattle.items.proofs.Laws.{number-within, text-within}
+use Rattle.number.proofs.Laws.{number-within}
+use Rattle.items.proofs.Laws.{text-within}
 use Rattle.tables.specs.Layout.{Layout, number, text, ended, runBy, runWithin}
 use Rattle.tables.specs.declared.Run.{Run}
 use Rattle.tables.specs.declared.Run.the-variants.{End, Wrong}

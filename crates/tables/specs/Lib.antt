@@ -1,4 +1,3 @@
 pub mod Layout
 pub mod LocalRecord
 pub mod Member
-pub mod Tables

@@ -3,7 +3,7 @@
 use Prim.Native.Nat.{ℕ, zero, suc, _+_, _≤_, _<_}
 use mathlib.Core.List.{List, [], _∷_}
 use mathlib.Core.Path.{_≡_}
-use Rattle.items.specs.Number.{greatest, numberAt, thenNumber}
+use Rattle.number.specs.Number.{greatest, numberAt, thenNumber}
 use Rattle.items.specs.Text.{textAt, thenText}
 use Rattle.tables.specs.declared.LocalRecord.{LocalRecord}
 use Rattle.tables.specs.declared.LocalRecord.the-variants.{Read, Wrong}

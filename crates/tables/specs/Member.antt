@@ -5,7 +5,7 @@ use mathlib.Core.List.{List, []}
 use lib.Dec.{eqb, ltb, leb}
 use lib.ListN.{take, drop}
 use Rattle.basics.specs.Choice.{pick}
-use Rattle.items.specs.Number.{greatest, numberAt, thenNumber}
+use Rattle.number.specs.Number.{greatest, numberAt, thenNumber}
 use Rattle.tables.specs.Layout.{threeTexts, ended, runBy, thenRun}
 use Rattle.tables.specs.declared.Member.{Member}
 use Rattle.tables.specs.declared.Member.the-variants.{Read, Wrong}

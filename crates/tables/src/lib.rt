@@ -1,15 +1,14 @@
 // The tables of a case (document 01, "The case"): its members and its local records, and the lookup of a member. One pass over
 // each, no copy, no byte looked at twice. Every function takes any bytes and any place. What cannot be read is answered.
-use items::Number;
 use items::Text;
-use items::case_number;
 use items::read_text;
+use number::Number;
+use number::case_number;
 ghost use mathlib.Core.Path.{_≡_};
 ghost use lib.ListN.{length};
 ghost use Rattle.tables.specs.Layout.{runBy, runWithin, threeTexts, membersThen, recordsThen, ended};
 ghost use Rattle.tables.specs.Member.{memberAt, memberWithin, memberFound};
 ghost use Rattle.tables.specs.LocalRecord.{recordAt, recordWithin};
-ghost use Rattle.tables.specs.Tables.{tablesAt};
 
 // What reading a run of items answers.
 pub enum Run {
@@ -47,23 +46,6 @@ pub struct RecordPlace {
 // What reading a local record answers.
 pub enum LocalRecord {
     Read(RecordPlace),
-    // The place of the first wrong item.
-    Wrong(usize),
-}
-
-// Where the member run and the record run lie in a case, and their counts.
-pub struct TablePlaces {
-    pub members: usize,
-    pub members_length: usize,
-    pub member_count: usize,
-    pub records: usize,
-    pub records_length: usize,
-    pub record_count: usize,
-}
-
-// What reading the two runs answers.
-pub enum Tables {
-    Read(TablePlaces),
     // The place of the first wrong item.
     Wrong(usize),
 }
@@ -114,7 +96,7 @@ pub fn read_member(bytes: &[u8], at: usize, last: usize) -> Member
 }
 
 // So many members from a place on, whose pool indexes are above 0 and strictly rise.
-fn read_members(bytes: &[u8], from: usize, count: usize) -> Run
+pub fn read_members(bytes: &[u8], from: usize, count: usize) -> Run
     ensures { λ r. ⌜ (r ≡ runBy (membersThen count 0 ended) (now (bytes .entry)) from)
         × runWithin (length (now (bytes .entry))) from r ⌝ }
 {
@@ -163,7 +145,7 @@ pub fn read_record(records: &[u8], at: usize) -> LocalRecord
 }
 
 // So many local records from a place on.
-fn read_records(bytes: &[u8], from: usize, count: usize) -> Run
+pub fn read_records(bytes: &[u8], from: usize, count: usize) -> Run
     ensures { λ r. ⌜ (r ≡ runBy (recordsThen count ended) (now (bytes .entry)) from)
         × runWithin (length (now (bytes .entry))) from r ⌝ }
 {
@@ -181,43 +163,6 @@ fn read_records(bytes: &[u8], from: usize, count: usize) -> Run
         left -= 1;
     }
     Run::End(at)
-}
-
-// Member count, members, record count, local records, and nothing after.
-pub fn read_tables(bytes: &[u8], at: usize) -> Tables
-    ensures { λ r. ⌜ r ≡ tablesAt (now (bytes .entry)) at ⌝ }
-{
-    let Number::Value(member_count, members) = case_number(bytes, at) else {
-        return Tables::Wrong(at);
-    };
-    let member_run = read_members(bytes, members, member_count);
-    let members_end = match member_run {
-        Run::End(end) => end,
-        Run::Wrong(wrong) => {
-            return Tables::Wrong(wrong);
-        }
-    };
-    let Number::Value(record_count, records) = case_number(bytes, members_end) else {
-        return Tables::Wrong(members_end);
-    };
-    let record_run = read_records(bytes, records, record_count);
-    let records_end = match record_run {
-        Run::End(end) => end,
-        Run::Wrong(wrong) => {
-            return Tables::Wrong(wrong);
-        }
-    };
-    if records_end < bytes.len() {
-        return Tables::Wrong(records_end);
-    }
-    Tables::Read(TablePlaces {
-        members,
-        members_length: members_end - members,
-        member_count,
-        records,
-        records_length: records_end - records,
-        record_count,
-    })
 }
 
 // The part of a member run that holds the three texts of the member with a pool index and kind, among so many members from

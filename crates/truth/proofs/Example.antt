@@ -23,7 +23,7 @@ use Rattle.descriptor.specs.Readers.{slotsOf, judged, parameters, closing, slot
 use Rattle.fieldtype.specs.Search.{firstIn, firstFrom}
 use Rattle.fieldtype.specs.Types.{brackets, typeBehind, fieldTypeAt, typeSlots, typesFrom, typesAt, typesOf}
 use Rattle.descriptors.specs.Lenient.{occurs}
-use Rattle.items.specs.Number.{numberFrom, numberAt}
+use Rattle.number.specs.Number.{numberFrom, numberAt}
 use Rattle.items.specs.Text.{textAt, textPart, afterText, descriptorOf}
 use Rattle.tables.specs.Layout.{runBy}
 use Rattle.tables.specs.Member.{memberAt, memberFound}

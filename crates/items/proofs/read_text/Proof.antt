@@ -7,7 +7,8 @@ use borrow.Author.Needs.{needs}
 use borrow.Author.Tests.{le-leb, lt-leb}
 use Rattle.items.specs.Text.{textAt, textWithin}
 use Rattle.items.specs.declared.Text.{Text}
-use Rattle.items.proofs.Laws.{kept, text-within}
+use Rattle.number.proofs.Laws.{kept}
+use Rattle.items.proofs.Laws.{text-within}
 use Rattle.items.proofs.read_text.Statement.{statement}
 use Rattle.items.proofs.read_text.Tie as tie
 

@@ -5,7 +5,7 @@ use native.Mathlib.Omega.{arith}
 use mathlib.Core.Path.{_≡_, _∙_, sym, refl}
 use lib.ListN.{length}
 use borrow.Author.Needs.{needs}
-use Rattle.items.proofs.Laws.{kept}
+use Rattle.number.proofs.Laws.{kept}
 use Rattle.tables.specs.Layout.{recordsThen, ended, runBy, runWithin}
 use Rattle.tables.specs.declared.Run.{Run}
 use Rattle.tables.proofs.Runs.{records-turn}

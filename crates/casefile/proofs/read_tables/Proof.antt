@@ -1,12 +1,12 @@
--- `tables::read_tables` meets its contract. Each step is the definition's own; a run ends at or behind its start.
+-- `casefile::read_tables` meets its contract. Each step is the definition's own; a run ends at or behind its start.
 -- Assumes nothing.
 use native.Mathlib.Omega.{arith}
 use mathlib.Core.Path.{_∙_, sym}
 use borrow.Author.Needs.{needs}
 use borrow.Author.Tests.{lt-ltb, le-ltb}
-use Rattle.tables.specs.Tables.{tablesAt}
-use Rattle.tables.proofs.read_tables.Statement.{statement}
-use Rattle.tables.proofs.read_tables.Tie as tie
+use Rattle.casefile.specs.Whole.{tablesAt}
+use Rattle.casefile.proofs.read_tables.Statement.{statement}
+use Rattle.casefile.proofs.read_tables.Tie as tie
 
 case-number-requires : tie.Need-case-number-requires
 case-number-requires c κs = search needs

@@ -1,4 +1,4 @@
--- `items::read_number` meets its contract. The measure is the limit, which each group behind the first lessens.
+-- `number::read_number` meets its contract. The measure is the limit, which each group behind the first lessens.
 -- Assumes nothing.
 use Prim.Native.Nat.{_+_, _-_, _/_, _≤_, ℕ, _<_}
 use native.Mathlib.Omega.{arith}
@@ -9,15 +9,16 @@ use borrow.Author.Needs.{needs}
 use borrow.Author.Tests.{le-leb, lt-leb, eq-eqb, ne-eqb}
 use borrow.Fn.Kinds.{In}
 use borrow.Fn.PlainCycle.{Measures, is, falls, and}
-use Rattle.items.specs.Number.{numberAt, numberWithin, further}
-use Rattle.items.specs.declared.Number.{Number}
-use Rattle.items.specs.declared.Number.the-variants.{NotNumber}
-use Rattle.items.proofs.+read_number.{statement}
-use Rattle.items.proofs.+read_number.Tie.{close}
-use Rattle.items.proofs.Laws.{whole, number-past, number-one, number-small, number-more}
+use Rattle.number.specs.Number.{numberAt, numberWithin, further}
+use Rattle.number.specs.declared.Number.{Number}
+use Rattle.number.specs.declared.Number.the-variants.{NotNumber}
+use Rattle.number.proofs.+read_number.{statement}
+use Rattle.number.proofs.+read_number.Tie.{close}
+use Rattle.number.proofs.Laws.{whole, number-past, number-small, number-more}
+use Rattle.number.proofs.Laws.{number-one}
 use Rattle.items.proofs.read_number.Reads as read-number
 use Rattle.items.proofs.read_number.Kinds as read-number-kinds
-use Rattle.items.proofs.+read_number.Lts-read_number as read-number-lts
+use Rattle.number.proofs.+read_number.Lts-read_number as read-number-lts
 
 abbrev μ-read-number : Measures 1 read-number-kinds.ps ℕ
 μ-read-number κs a = a .1 .1 .0

@@ -1,13 +1,13 @@
--- `items::joined` meets its contract. The sum fits, since the number behind is at most 511.
+-- `number::joined` meets its contract. The sum fits, since the number behind is at most 511.
 -- Assumes nothing.
 use native.Mathlib.Omega.{arith}
 use mathlib.Core.Path.{sym}
 use borrow.Author.Needs.{needs}
 use borrow.Author.Tests.{ne-eqb}
-use Rattle.items.specs.Number.{restWithin}
-use Rattle.items.specs.declared.Number.the-variants.{Value}
-use Rattle.items.proofs.joined.Statement.{statement}
-use Rattle.items.proofs.joined.Tie as tie
+use Rattle.number.specs.Number.{restWithin}
+use Rattle.number.specs.declared.Number.the-variants.{Value}
+use Rattle.number.proofs.joined.Statement.{statement}
+use Rattle.number.proofs.joined.Tie as tie
 
 enum-known-rest : tie.Need-enum-known-rest
 enum-known-rest c = search needs

@@ -1,12 +1,13 @@
--- `items::third_group` meets its contract. A third group above 3 passes 65,535.
+-- `number::third_group` meets its contract. A third group above 3 passes 65,535.
 -- Assumes nothing.
 use native.Mathlib.Omega.{arith}
 use mathlib.Core.Path.{sym}
 use borrow.Author.Needs.{needs}
 use borrow.Author.Tests.{le-leb}
-use Rattle.items.proofs.Laws.{whole, number-past, number-one, number-above}
-use Rattle.items.proofs.third_group.Statement.{statement}
-use Rattle.items.proofs.third_group.Tie as tie
+use Rattle.number.proofs.Laws.{whole, number-past, number-above}
+use Rattle.number.proofs.Laws.{number-one}
+use Rattle.number.proofs.third_group.Statement.{statement}
+use Rattle.number.proofs.third_group.Tie as tie
 
 returns : tie.Need-returns
 returns c =
