@@ -4,7 +4,7 @@ use Prim.Native.Nat.{ℕ}
 use mathlib.Core.List.{List}
 use Rattle.basics.specs.Ascii.{ascii}
 use Rattle.items.specs.Text.{nameOf}
-use Rattle.tables.specs.Member.{memberFound}
+use Rattle.lookup.specs.Lookup.{memberFound}
 use Rattle.fault.specs.declared.Action.{Action}
 use Rattle.fault.specs.declared.Action.the-variants.{ReadField, AssignField, Invoke, LoadArray, StoreArray, ReadLength, ThrowException, EnterBlock, ExitBlock}
 use Rattle.words.specs.Words.{quoted, invokeText, arrayText}

@@ -19,17 +19,17 @@ pub fn put_action_at(
 {
     match action {
         Action::ReadField { index } => {
-            let texts = tables::find_member(members, count, index, 0);
+            let texts = lookup::find_member(members, count, index, 0);
             put_quoted_at(out, at, b"Cannot read field ", items::name_of(texts))
         }
         Action::AssignField { index } => {
-            let texts = tables::find_member(members, count, index, 0);
+            let texts = lookup::find_member(members, count, index, 0);
             put_quoted_at(out, at, b"Cannot assign field ", items::name_of(texts))
         }
         Action::Invoke { index } => put_invoke_at(
             out,
             at,
-            tables::find_member(members, count, index, 1),
+            lookup::find_member(members, count, index, 1),
         ),
         Action::LoadArray { element } => put_array_at(out, at, b"Cannot load from ", element),
         Action::StoreArray { element } => put_array_at(out, at, b"Cannot store to ", element),

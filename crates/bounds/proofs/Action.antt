@@ -9,7 +9,7 @@ use lib.Dec.{lit≤}
 use lib.ListN.{length, length-append}
 use Rattle.basics.specs.Ascii.{ascii}
 use Rattle.items.specs.Text.{afterText, classOf, nameOf, descriptorOf}
-use Rattle.tables.specs.Member.{memberFound}
+use Rattle.lookup.specs.Lookup.{memberFound}
 use Rattle.casefile.specs.Whole.{longest}
 use Rattle.classname.specs.ClassName.{className}
 use Rattle.names.specs.Names.{parameterNames}

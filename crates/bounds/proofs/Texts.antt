@@ -14,7 +14,8 @@ use Rattle.items.specs.Text.{textAt, thenText, textPart}
 use Rattle.items.specs.declared.Text.{Text}
 use Rattle.items.specs.declared.Text.the-variants.{Place, NotText}
 use Rattle.tables.specs.LocalRecord.{recordsIn}
-use Rattle.tables.specs.Member.{memberAt, thenMember, textsOf, memberFound}
+use Rattle.tables.specs.Member.{memberAt, thenMember}
+use Rattle.lookup.specs.Lookup.{textsOf, memberFound}
 use Rattle.tables.specs.declared.Member.{Member}
 use Rattle.tables.specs.declared.Member.the-variants.{Read, Wrong}
 use Rattle.fieldtype.specs.declared.Found.{Found}

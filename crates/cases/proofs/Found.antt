@@ -15,7 +15,8 @@ use Rattle.basics.specs.Choice.{pick}
 use Rattle.number.specs.Number.{greatest, groupOrMore, groupsOf, numberBytes, numberAt}
 use Rattle.items.specs.Text.{textBytes, textAt, textPart, afterText, classOf, nameOf, descriptorOf}
 use Rattle.tables.specs.Layout.{ended, threeTexts, runBy}
-use Rattle.tables.specs.Member.{memberAt, textsOf, memberFound}
+use Rattle.tables.specs.Member.{memberAt}
+use Rattle.lookup.specs.Lookup.{textsOf, memberFound}
 use Rattle.tables.specs.declared.Member.the-variants.{Read}
 use Rattle.tables.specs.declared.Run.the-variants.{End}
 use Rattle.cases.specs.LaidOut.{Member, textsBytes, memberBytes, membersBytes, RightMember, RightMembers, none, more}

@@ -6,7 +6,7 @@ use mathlib.Core.Path.{_≡_}
 use mathlib.Core.List.{List, [], List·Memᴰ}
 use lib.ListN.{length}
 use Rattle.items.specs.Text.{classOf, nameOf, descriptorOf}
-use Rattle.tables.specs.Member.{memberFound}
+use Rattle.lookup.specs.Lookup.{memberFound}
 use Rattle.cases.specs.LaidOut.{Member, textsBytes, membersBytes, RightMember, RightMembers}
 
 infix 4 _among_

@@ -3,7 +3,7 @@
 use Prim.Native.Nat.{ℕ}
 use mathlib.Core.List.{List, [], _∷_}
 use Rattle.items.specs.Text.{descriptorOf}
-use Rattle.tables.specs.Member.{memberFound}
+use Rattle.lookup.specs.Lookup.{memberFound}
 
 -- a descriptor, or nothing: "A member missing, or of the other kind"
 pub data Known : Type 0 where

@@ -14,7 +14,7 @@ use Rattle.basics.specs.Ascii.{ascii}
 use Rattle.basics.specs.Bytes.{byteAt, u16At}
 use Rattle.basics.specs.Choice.{pick, both, oneOf, sameList}
 use Rattle.items.specs.Text.{nameOf, descriptorOf}
-use Rattle.tables.specs.Member.{memberFound}
+use Rattle.lookup.specs.Lookup.{memberFound}
 use Rattle.descriptor.specs.Readers.{parameters, fieldSlots}
 use Rattle.descriptor.specs.declared.Params.the-variants.{Read, Unreadable}
 use Rattle.effects.specs.Depth.{Rule, none, fixed, reads, writes, invokes as invokesRule, ruleOf, depthBy, depthOf}

@@ -41,7 +41,7 @@ fn read_fault(code: &[u8], members: &[u8], count: usize, fault: usize) -> Fault
         return Fault::Nothing;
     }
     let index = reads::read_u16(code, fault + 1);
-    if tables::find_member(members, count, index, 0).len() == 0 {
+    if lookup::find_member(members, count, index, 0).len() == 0 {
         return Fault::Nothing;
     }
     Fault::Failed {
@@ -59,7 +59,7 @@ fn assign_fault(code: &[u8], members: &[u8], count: usize, fault: usize) -> Faul
         return Fault::Nothing;
     }
     let index = reads::read_u16(code, fault + 1);
-    let texts = tables::find_member(members, count, index, 0);
+    let texts = lookup::find_member(members, count, index, 0);
     if texts.len() == 0 {
         return Fault::Nothing;
     }
@@ -78,7 +78,7 @@ fn invoke_fault(code: &[u8], members: &[u8], count: usize, fault: usize) -> Faul
         return Fault::Nothing;
     }
     let index = reads::read_u16(code, fault + 1);
-    let texts = tables::find_member(members, count, index, 1);
+    let texts = lookup::find_member(members, count, index, 1);
     if texts.len() == 0 {
         return Fault::Nothing;
     }

@@ -10,7 +10,8 @@ use mathlib.Core.List.{List}
 use lib.Dec.{leb}
 use borrow.Author.Tests.{ne-eqb, lt-leb, leb-false}
 use Rattle.basics.specs.Choice.{pick}
-use Rattle.tables.specs.Member.{memberAt, thenMember, memberFound}
+use Rattle.tables.specs.Member.{memberAt, thenMember}
+use Rattle.lookup.specs.Lookup.{memberFound}
 use Rattle.tables.specs.declared.Member.{Member}
 use Rattle.tables.specs.declared.Member.the-variants.{Read, Wrong}
 use Rattle.tables.specs.declared.MemberPlace.{MemberPlace}

@@ -10,7 +10,7 @@ use lib.ListN.{length, getD, set, length-set}
 use lib.Seq.{getD-set-same, getD-set-other, ext-getD}
 use borrow.Author.Tests.{lt-ltb, le-ltb, ltb-true, ltb-false}
 use Rattle.basics.specs.Choice.{pick}
-use Rattle.tables.specs.Member.{memberFound}
+use Rattle.lookup.specs.Lookup.{memberFound}
 use Rattle.index.specs.Index.{bucketOf, skipped, entry, foundIn, Tabled, TabledOnce, Indexed, foundBy}
 use Rattle.index.specs.declared.Rest.{Rest}
 use Rattle.index.proofs.Skipping.{skippedIn, skipped-on, skipped-finds}

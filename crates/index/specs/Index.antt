@@ -6,7 +6,8 @@ use mathlib.Core.Path.{_≡_}
 use lib.Dec.{ltb, leb}
 use lib.ListN.{length, getD}
 use Rattle.basics.specs.Choice.{pick}
-use Rattle.tables.specs.Member.{memberAt, thenMember, memberFound}
+use Rattle.tables.specs.Member.{memberAt, thenMember}
+use Rattle.lookup.specs.Lookup.{memberFound}
 use Rattle.index.specs.declared.Rest.{Rest}
 
 -- the bucket of a pool index: so many indexes share one

@@ -3,7 +3,7 @@
 // no cell that it has not.
 use tables::Member;
 ghost use mathlib.Core.Path.{_≡_};
-ghost use Rattle.tables.specs.Member.{memberFound};
+ghost use Rattle.lookup.specs.Lookup.{memberFound};
 ghost use Rattle.index.specs.Index.{skipped, Tabled, Indexed, foundBy};
 
 // How many pool indexes share a bucket.
@@ -59,7 +59,7 @@ pub fn index_members(members: &[u8], count: usize, table: &mut [usize])
     }
 }
 
-// The part that holds the three texts of the member with a pool index and kind, as `tables::find_member` hands it back, by
+// The part that holds the three texts of the member with a pool index and kind, as `lookup::find_member` hands it back, by
 // a table of the run.
 pub fn find_indexed<'a>(
     members: &'a [u8],
@@ -77,7 +77,7 @@ pub fn find_indexed<'a>(
         let from = table[3 * bucket];
         let above = table[3 * bucket + 1];
         let left = table[3 * bucket + 2];
-        return tables::find_from(members, from, above, left, index, kind);
+        return lookup::find_from(members, from, above, left, index, kind);
     }
-    tables::find_from(members, 0, 0, count, index, kind)
+    lookup::find_from(members, 0, 0, count, index, kind)
 }

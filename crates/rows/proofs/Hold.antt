@@ -27,7 +27,8 @@ use Rattle.number.specs.Number.{numberFrom, numberAt}
 use Rattle.items.specs.Text.{textAt, textPart, afterText, classOf, nameOf, descriptorOf}
 use Rattle.tables.specs.Layout.{membersThen, recordsThen, runBy}
 use Rattle.tables.specs.LocalRecord.{recordsIn}
-use Rattle.tables.specs.Member.{memberAt, memberFound}
+use Rattle.tables.specs.Member.{memberAt}
+use Rattle.lookup.specs.Lookup.{memberFound}
 use Rattle.casefile.specs.Parts.{partsOf}
 use Rattle.casefile.specs.Whole.{tablesAt, placesIn, caseOf}
 use Rattle.effects.specs.Depth.{ruleOf, depthOf}

@@ -67,7 +67,7 @@ fn show_number(what: &[u8], bytes: &[u8], limit: usize) {
 
 // A lookup, and the three texts of the part that it hands back.
 fn show_member(what: &[u8], members: &[u8], count: usize, index: usize, kind: usize) {
-    let part = tables::find_member(members, count, index, kind);
+    let part = lookup::find_member(members, count, index, kind);
     say(what);
     say_number(b": ", part.len());
     say_part(b", class ", items::class_of(part));

@@ -18,7 +18,7 @@ use Rattle.items.specs.declared.Text.{Text}
 use Rattle.items.specs.declared.Text.the-variants.{Place, NotText}
 use Rattle.tables.specs.Layout.{Layout, text, threeTexts, memberThen, membersThen, recordThen, recordsThen, ended, runBy, thenRun}
 use Rattle.tables.specs.LocalRecord.{recordAt, thenRecord, recordsIn}
-use Rattle.tables.specs.Member.{memberAt, thenMember, textsOf, memberFound}
+use Rattle.tables.specs.Member.{memberAt, thenMember}
 use Rattle.tables.specs.declared.Member.{Member}
 use Rattle.tables.specs.declared.Member.the-variants as members
 use Rattle.tables.specs.declared.MemberPlace.{MemberPlace}
@@ -152,90 +152,3 @@ pub records-turn :
 unfolding recordsThen
 records-turn bytes zero at some = absurd (not-suc-le-zero some)
 records-turn bytes (suc left) at some = rw sub-one (record-then bytes at (recordsThen left ended))
-
-pub found-turn :
-    (bytes : List ℕ) (index kind left last at : ℕ) → 0 < left →
-    memberFound bytes index kind left last at
-    ≡ thenMember (memberAt bytes last at) (λ wrong. []) (λ place.
-    pick (eqb (place .index) index) (pick (eqb (place .kind) kind) (textsOf bytes place) [])
-    (memberFound bytes index kind (left - 1) (place .index) (place .next)))
-unfolding memberFound
-found-turn bytes index kind zero last at some = absurd (not-suc-le-zero some)
-found-turn bytes index kind (suc left) last at some = simp sub-one
-
-pub listed-turn :
-    (bytes : List ℕ) (left at : ℕ) → 0 < left →
-    recordsIn bytes left at
-    ≡ thenRecord (recordAt bytes at) (λ wrong. []) (λ place. place ∷ recordsIn bytes (left - 1) (place .next))
-unfolding recordsIn
-listed-turn bytes zero at some = absurd (not-suc-le-zero some)
-listed-turn bytes (suc left) at some = simp sub-one
-
--- ---- indexes rise
-
-abbrev pub Above : ℕ → Member → Type 0
-Above last (members.Read place) = last < place .index
-Above last (members.Wrong place) = Unit {0}
-
-pub member-above : (bytes : List ℕ) (last at : ℕ) → Above last (memberAt bytes last at)
-unfolding memberAt
-member-above bytes last at = by-index (numberAt greatest bytes at)
-  where
-    texted : ℕ → ℕ → ℕ → Run → Member
-    texted index kind texts r =
-        thenRun r (λ place. members.Wrong place) (λ next.
-        members.Read (record { index = index; kind = kind; texts = texts; next = next }))
-
-    kinded : ℕ → ℕ → Number → Member
-    kinded index kindAt n =
-        thenNumber n (members.Wrong kindAt) (λ kind texts.
-        pick (leb kind 1) (texted index kind texts (runBy (threeTexts ended) bytes texts)) (members.Wrong kindAt))
-
-    by-texts : (index kind texts : ℕ) → last < index → (r : Run) → Above last (texted index kind texts r)
-    by-texts index kind texts above (End next) = above
-    by-texts index kind texts above (Wrong place) = tt
-
-    by-kind-rule :
-        (index kindAt kind texts : ℕ) → last < index → (t : Bool) →
-        Above last (pick t (texted index kind texts (runBy (threeTexts ended) bytes texts)) (members.Wrong kindAt))
-    by-kind-rule index kindAt kind texts above true = by-texts index kind texts above (runBy (threeTexts ended) bytes texts)
-    by-kind-rule index kindAt kind texts above false = tt
-
-    by-kind : (index kindAt : ℕ) → last < index → (n : Number) → Above last (kinded index kindAt n)
-    by-kind index kindAt above (Value kind texts) = by-kind-rule index kindAt kind texts above (leb kind 1)
-    by-kind index kindAt above NotNumber = tt
-
-    by-index-rule :
-        (index kindAt : ℕ) (t : Bool) → ltb last index ≡ t →
-        Above last (pick t (kinded index kindAt (numberAt greatest bytes kindAt)) (members.Wrong at))
-    by-index-rule index kindAt true e = by-kind index kindAt (ltb-true last index e) (numberAt greatest bytes kindAt)
-    by-index-rule index kindAt false e = tt
-
-    by-index :
-        (n : Number) →
-        Above last
-        (thenNumber n (members.Wrong at) (λ index kindAt.
-        pick (ltb last index) (kinded index kindAt (numberAt greatest bytes kindAt)) (members.Wrong at)))
-    by-index (Value index kindAt) = by-index-rule index kindAt (ltb last index) refl
-    by-index NotNumber = tt
-
--- at or below the last index none is found
-pub found-none :
-    (bytes : List ℕ) (index kind left last at : ℕ) → index ≤ last → memberFound bytes index kind left last at ≡ []
-unfolding memberFound
-found-none bytes index kind zero last at below = refl
-found-none bytes index kind (suc left) last at below =
-    by-member (memberAt bytes last at) (member-above bytes last at)
-    (λ place small. found-none bytes index kind left (place .index) (place .next) small)
-  where
-    by-member :
-        (m : Member) → Above last m →
-        ((place : MemberPlace) → index ≤ place .index → memberFound bytes index kind left (place .index) (place .next) ≡ []) →
-        thenMember m (λ wrong. []) (λ place.
-        pick (eqb (place .index) index) (pick (eqb (place .kind) kind) (textsOf bytes place) [])
-        (memberFound bytes index kind left (place .index) (place .next)))
-        ≡ []
-    by-member (members.Read place) above rest =
-        let other : place .index ≡ index → ⊥ = λ e. omega (arith, e) in
-        rw (ne-eqb (place .index) index other) (rest place (omega arith))
-    by-member (members.Wrong place) above rest = refl

@@ -1,9 +1,8 @@
--- Members and the member lookup (document 01, "The case" and "a member lookup hands back the part of the case").
+-- Members (document 01, "The case").
 -- Assumes nothing.
-use Prim.Native.Nat.{ℕ, zero, suc, _-_, _≤_, _<_}
-use mathlib.Core.List.{List, []}
-use lib.Dec.{eqb, ltb, leb}
-use lib.ListN.{take, drop}
+use Prim.Native.Nat.{ℕ, _≤_, _<_}
+use mathlib.Core.List.{List}
+use lib.Dec.{ltb, leb}
 use Rattle.basics.specs.Choice.{pick}
 use Rattle.number.specs.Number.{greatest, numberAt, thenNumber}
 use Rattle.tables.specs.Layout.{threeTexts, ended, runBy, thenRun}
@@ -32,17 +31,3 @@ thenMember (Wrong place) wrong following = wrong place
 abbrev pub memberWithin : ℕ → ℕ → Member → Type 0
 memberWithin size at (Read place) = (at < place .texts) × (place .texts ≤ place .next) × (place .next ≤ size)
 memberWithin size at (Wrong place) = Unit {0}
-
--- the bytes of a member's three texts
-abbrev pub textsOf : List ℕ → MemberPlace → List ℕ
-textsOf bytes place = take (place .next - place .texts) (drop (place .texts) bytes)
-
--- the texts of the member with a pool index and kind, among so many from a place on, whose indexes are above the last. None
--- where it "is missing, or of the other kind". Indexes rise, so the first with the index is the only one.
-unfoldable pub memberFound : List ℕ → ℕ → ℕ → ℕ → ℕ → ℕ → List ℕ
-memberFound bytes index kind zero last at = []
-memberFound bytes index kind (suc count) last at =
-    thenMember (memberAt bytes last at) (λ place. []) (λ place.
-    pick (eqb (place .index) index)
-    (pick (eqb (place .kind) kind) (textsOf bytes place) [])
-    (memberFound bytes index kind count (place .index) (place .next)))

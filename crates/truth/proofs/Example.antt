@@ -26,7 +26,8 @@ use Rattle.descriptors.specs.Lenient.{occurs}
 use Rattle.number.specs.Number.{numberFrom, numberAt}
 use Rattle.items.specs.Text.{textAt, textPart, afterText, descriptorOf}
 use Rattle.tables.specs.Layout.{runBy}
-use Rattle.tables.specs.Member.{memberAt, memberFound}
+use Rattle.tables.specs.Member.{memberAt}
+use Rattle.lookup.specs.Lookup.{memberFound}
 use Rattle.effects.specs.Depth.{ruleOf, depthOf, at}
 use Rattle.effects.specs.Lookup.{lookupIn, known}
 use Rattle.effects.specs.Rows.{rowOf}

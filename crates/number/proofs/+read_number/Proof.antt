@@ -16,8 +16,8 @@ use Rattle.number.proofs.+read_number.{statement}
 use Rattle.number.proofs.+read_number.Tie.{close}
 use Rattle.number.proofs.Laws.{whole, number-past, number-small, number-more}
 use Rattle.number.proofs.Laws.{number-one}
-use Rattle.items.proofs.read_number.Reads as read-number
-use Rattle.items.proofs.read_number.Kinds as read-number-kinds
+use Rattle.number.proofs.read_number.Reads as read-number
+use Rattle.number.proofs.read_number.Kinds as read-number-kinds
 use Rattle.number.proofs.+read_number.Lts-read_number as read-number-lts
 
 abbrev μ-read-number : Measures 1 read-number-kinds.ps ℕ

@@ -1,8 +1,8 @@
--- `tables::find_member` meets its contract. All members of a run are those from its start on.
+-- `lookup::find_member` meets its contract. All members of a run are those from its start on.
 -- Assumes nothing.
 use borrow.Author.Needs.{needs}
-use Rattle.tables.proofs.find_member.Statement.{statement}
-use Rattle.tables.proofs.find_member.Tie as tie
+use Rattle.lookup.proofs.find_member.Statement.{statement}
+use Rattle.lookup.proofs.find_member.Tie as tie
 
 find-from-requires : tie.Need-find-from-requires
 find-from-requires c κs = search needs

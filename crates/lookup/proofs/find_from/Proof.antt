@@ -1,14 +1,14 @@
--- `tables::find_from` meets its contract. The invariant: the lookup finds from here on what it finds from the start.
+-- `lookup::find_from` meets its contract. The invariant: the lookup finds from here on what it finds from the start.
 -- Assumes nothing.
 use Prim.Native.Nat.{_-_, _≤_}
 use native.Mathlib.Omega.{arith}
 use mathlib.Core.Path.{_≡_, _∙_, sym, refl}
 use borrow.Author.Needs.{needs}
 use borrow.Author.Tests.{eq-eqb, ne-eqb}
-use Rattle.tables.specs.Member.{memberFound}
-use Rattle.tables.proofs.Runs.{found-turn, found-none}
-use Rattle.tables.proofs.find_from.Statement.{statement}
-use Rattle.tables.proofs.find_from.Tie as tie
+use Rattle.lookup.specs.Lookup.{memberFound}
+use Rattle.lookup.proofs.Turns.{found-turn, found-none}
+use Rattle.lookup.proofs.find_from.Statement.{statement}
+use Rattle.lookup.proofs.find_from.Tie as tie
 
 abbrev Inv-loop : tie.InvT-loop
 Inv-loop members from above count index kind at₀ last₀ left₀ at last left =
