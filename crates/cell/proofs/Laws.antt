@@ -1,13 +1,13 @@
 -- A cell tells its load.
 -- Assumes nothing.
-use Prim.Native.Nat.{ℕ, _-_, _/_, _%_, _^_, _<_}
+use Prim.Native.Nat.{ℕ, _-_, _/_, _%_, _<_}
 use native.Mathlib.Omega.{arith}
 use mathlib.Core.Path.{_≡_, refl, _∙_, sym, ap, ap₂}
 use mathlib.Core.Bool.{Bool, true, false}
-use lib.Dec.{eqb, leb}
+use lib.Dec.{eqb}
 use borrow.Author.Tests.{ne-eqb, eqb-true, eqb-false}
 use Rattle.basics.specs.Choice.{pick}
-use Rattle.cell.specs.Cell.{cellOf, packed, unpacked}
+use Rattle.cell.specs.Cell.{cellOf, hasCell, packed, unpacked}
 use Rattle.cell.specs.Laws.{CellInjective, NoLoadIsZero, LoadUnpacks, PackedUnpacks, CellOfUnpacked, ZeroIsOther}
 use Rattle.cell.specs.Laws.{OtherIsZero}
 use Rattle.cell.specs.declared.Cell.the-variants.{Held, TooLarge}
@@ -23,15 +23,15 @@ no-load-is-zero load local e = absurd (omega arith)
 
 pub held-so :
     (load local cell : ℕ) → packed load local ≡ Held cell →
-    (leb (cellOf load local) (2 ^ 64 - 1) ≡ true) × (cell ≡ cellOf load local)
-held-so load local cell e = by-test (leb (cellOf load local) (2 ^ 64 - 1)) (cellOf load local) e
+    (hasCell load local ≡ true) × (cell ≡ cellOf load local)
+held-so load local cell e = by-test (hasCell load local) (cellOf load local) e
   where
     by-test : (b : Bool) (k : ℕ) → pick b (Held k) TooLarge ≡ Held cell → (b ≡ true) × (cell ≡ k)
     by-test true k e = let same : k ≡ cell = cc in (refl, sym same)
     by-test false k e = let z : _≡_ {A = ℕ} 0 1 = cc in absurd (omega arith)
 
-pub too-large : (load local : ℕ) → packed load local ≡ TooLarge → leb (cellOf load local) (2 ^ 64 - 1) ≡ false
-too-large load local e = by-test (leb (cellOf load local) (2 ^ 64 - 1)) (cellOf load local) e
+pub too-large : (load local : ℕ) → packed load local ≡ TooLarge → hasCell load local ≡ false
+too-large load local e = by-test (hasCell load local) (cellOf load local) e
   where
     by-test : (b : Bool) (k : ℕ) → pick b (Held k) TooLarge ≡ TooLarge → b ≡ false
     by-test true k e = let z : _≡_ {A = ℕ} 0 1 = cc in absurd (omega arith)

@@ -1,6 +1,7 @@
 -- A cell of the lent stack (document 01, "Numbers returned"): "A cell is 0 when opaque, else 1 + 256 * load index + local."
 -- Assumes nothing.
 use Prim.Native.Nat.{ℕ, _+_, _-_, _*_, _/_, _%_, _^_}
+use mathlib.Core.Bool.{Bool}
 use lib.Dec.{eqb, leb}
 use Rattle.basics.specs.Choice.{pick}
 use Rattle.cell.specs.declared.Cell.{Cell}
@@ -13,8 +14,11 @@ abbrev pub cellOf : ℕ → ℕ → ℕ
 cellOf load local = 1 + 256 * load + local
 
 -- a cell has 64 bits: a load whose cell would pass 2^64 - 1 has none
+abbrev pub hasCell : ℕ → ℕ → Bool
+hasCell load local = leb (cellOf load local) (2 ^ 64 - 1)
+
 abbrev pub packed : ℕ → ℕ → Cell
-packed load local = pick (leb (cellOf load local) (2 ^ 64 - 1)) (Held (cellOf load local)) TooLarge
+packed load local = pick (hasCell load local) (Held (cellOf load local)) TooLarge
 
 -- what a cell holds
 abbrev pub unpacked : ℕ → Slot

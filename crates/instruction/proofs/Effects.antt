@@ -1,78 +1,98 @@
 -- What an effect is, by the tests that the code makes of its operands and its member.
 -- Assumes nothing.
 use Prim.Native.Nat.{ℕ, _+_, _≤_, _<_}
-use mathlib.Core.Path.{_≡_}
-use mathlib.Core.List.{List}
+use mathlib.Core.Path.{_≡_, refl, ap}
+use mathlib.Core.Bool.{Bool, true, false}
+use mathlib.Core.List.{List, []}
+use lib.Dec.{ltb}
 use lib.ListN.{length}
 use borrow.Author.Tests.{lt-ltb, le-ltb}
 use Rattle.basics.specs.Bytes.{byteAt, u16At}
+use Rattle.basics.specs.Choice.{pick}
 use Rattle.descriptor.specs.Readers.{parameters, returnSlots, fieldSlots}
 use Rattle.descriptor.specs.declared.Params.the-variants.{Read, Unreadable as NoParams}
 use Rattle.descriptor.specs.declared.Slots.the-variants.{Slots as SlotsOf, Unreadable as NoSlots}
 use Rattle.items.specs.Text.{descriptorOf}
 use Rattle.index.specs.Index.{foundBy}
-use Rattle.effects.specs.Lookup.{Lookup}
-use Rattle.effects.proofs.Known.{known-none, known-some}
+use Rattle.effects.specs.Lookup.{Lookup, Known, missing, known, knownBy}
 use Rattle.effects.specs.Rows.{aload, gets, calls}
-use Rattle.walk.specs.Walk.{notModelled, blanks, load, Effect, fails, does, effectBy}
+use Rattle.effects.proofs.Known.{known-none, known-some}
+use Rattle.walk.specs.Walk.{notModelled, cut, blanks, load, Effect, fails, does, getting, calling, effectBy}
 use Rattle.instruction.specs.Code.{bare}
-use Rattle.instruction.specs.Lookup.{lookupBy}
+use Rattle.instruction.specs.Lookup.{lookupBy, citedTexts}
 
-module _ (code : List ℕ) (pc : ℕ) where
-  pub load-cut : (lookup : Lookup) → length code ≤ pc + 1 → fails notModelled ≡ bare (effectBy lookup code pc aload)
-  load-cut lookup l = rw (le-ltb (pc + 1) (length code) l)
+-- ---- a load
 
-  pub loads :
-      (lookup : Lookup) → pc + 1 < length code →
-      does 0 (load (byteAt code (pc + 1))) ≡ bare (effectBy lookup code pc aload)
-  loads lookup l = rw (lt-ltb (pc + 1) (length code) l)
+module _ (code : List ℕ) (pc : ℕ) (lookup : Lookup) where
+  pub load-cut : length code ≤ pc + 1 → fails notModelled ≡ bare (effectBy lookup code pc aload)
+  load-cut l = rw (le-ltb (pc + 1) (length code) l)
 
-  pub get-cut :
-      (lookup : Lookup) (takes : ℕ) → length code ≤ pc + 2 →
-      fails notModelled ≡ bare (effectBy lookup code pc (gets takes))
-  get-cut lookup takes l = rw (le-ltb (pc + 2) (length code) l)
+  pub loads : pc + 1 < length code → does 0 (load (byteAt code (pc + 1))) ≡ bare (effectBy lookup code pc aload)
+  loads l = rw (lt-ltb (pc + 1) (length code) l)
 
-  pub call-cut :
-      (lookup : Lookup) (takes : ℕ) → length code ≤ pc + 2 →
-      fails notModelled ≡ bare (effectBy lookup code pc (calls takes))
-  call-cut lookup takes l = rw (le-ltb (pc + 2) (length code) l)
+-- ---- the member that is cited
 
-  -- texts: the part that the lookup hands back
-  module _ (members : List ℕ) (count : ℕ) (table : List ℕ) (takes index : ℕ) (texts : List ℕ)
-      (whole : pc + 2 < length code) (cites : index ≡ u16At code (pc + 1)) where
-    abbrev Gets : Effect → Type 0
-    Gets effect = effect ≡ bare (effectBy (lookupBy members count table) code pc (gets takes))
+module _ (members : List ℕ) (count : ℕ) (table code : List ℕ) (pc kind : ℕ) where
+  pub cited-cut : length code ≤ pc + 2 → [] ≡ citedTexts members count table code pc kind
+  cited-cut l = rw (le-ltb (pc + 2) (length code) l)
 
-    abbrev Calls : Effect → Type 0
-    Calls effect = effect ≡ bare (effectBy (lookupBy members count table) code pc (calls takes))
+  pub cited :
+      (index : ℕ) (texts : List ℕ) → pc + 2 < length code → index ≡ u16At code (pc + 1) →
+      texts ≡ foundBy members count table index kind → texts ≡ citedTexts members count table code pc kind
+  cited index texts l cites found = rw (lt-ltb (pc + 2) (length code) l, ← cites) found
 
-    pub get-missing : texts ≡ foundBy members count table index 0 → length texts ≡ 0 → Gets (fails notModelled)
+-- an effect that goes by what is known of the member, where the code found no texts, or some
+module _ (by : Known → Effect) (found texts : List ℕ) where
+  none-known :
+      (b : Bool) → texts ≡ pick b found [] → length texts ≡ 0 → fails notModelled ≡ bare (by missing) →
+      fails notModelled ≡ bare (pick b (by (knownBy found)) (fails cut))
+  none-known true e none is = rw (← e, known-none texts none) is
+  none-known false e none is = refl
+
+  some-known :
+      (b : Bool) (effect : Effect) → texts ≡ pick b found [] → (length texts ≡ 0 → ⊥) →
+      effect ≡ bare (by (known (descriptorOf texts))) → effect ≡ bare (pick b (by (knownBy found)) (fails cut))
+  some-known true effect e some is = rw (← e, known-some texts some) is
+  some-known false effect e some is = absurd (some (ap length e))
+
+module _ (code : List ℕ) (pc : ℕ) (members : List ℕ) (count : ℕ) (table : List ℕ) (takes : ℕ) (texts : List ℕ) where
+  abbrev Gets : Effect → Type 0
+  Gets effect = effect ≡ bare (effectBy (lookupBy members count table) code pc (gets takes))
+
+  abbrev Calls : Effect → Type 0
+  Calls effect = effect ≡ bare (effectBy (lookupBy members count table) code pc (calls takes))
+
+  module _ (is : texts ≡ citedTexts members count table code pc 0) where
+    pub get-none : length texts ≡ 0 → Gets (fails notModelled)
     unfolding lookupBy
-    get-missing found none = rw (lt-ltb (pc + 2) (length code) whole, ← cites, ← found, known-none texts none)
+    get-none none = none-known (getting takes) _ texts (ltb (pc + 2) (length code)) is none refl
 
     pub got :
-        (slots : ℕ) → texts ≡ foundBy members count table index 0 → (length texts ≡ 0 → ⊥) →
-        slots ≡ fieldSlots (descriptorOf texts) → Gets (does takes (blanks slots))
+        (slots : ℕ) → (length texts ≡ 0 → ⊥) → slots ≡ fieldSlots (descriptorOf texts) → Gets (does takes (blanks slots))
     unfolding lookupBy
-    got slots found some e = rw (lt-ltb (pc + 2) (length code) whole, ← cites, ← found, known-some texts some, e)
+    got slots some e =
+        some-known (getting takes) _ texts (ltb (pc + 2) (length code)) _ is some (ap (λ (n : ℕ). does takes (blanks n)) e)
 
-    pub call-missing : texts ≡ foundBy members count table index 1 → length texts ≡ 0 → Calls (fails notModelled)
+  module _ (is : texts ≡ citedTexts members count table code pc 1) where
+    pub call-none : length texts ≡ 0 → Calls (fails notModelled)
     unfolding lookupBy
-    call-missing found none = rw (lt-ltb (pc + 2) (length code) whole, ← cites, ← found, known-none texts none)
+    call-none none = none-known (calling takes) _ texts (ltb (pc + 2) (length code)) is none refl
 
-    module _ (found : texts ≡ foundBy members count table index 1) (some : length texts ≡ 0 → ⊥) where
+    module _ (some : length texts ≡ 0 → ⊥) where
       pub call-unread : parameters (descriptorOf texts) ≡ NoParams → Calls (fails notModelled)
       unfolding lookupBy
-      call-unread p = rw (lt-ltb (pc + 2) (length code) whole, ← cites, ← found, known-some texts some, p)
+      call-unread p = some-known (calling takes) _ texts (ltb (pc + 2) (length code)) _ is some (rw p)
 
       pub call-endless :
           (args end : ℕ) → parameters (descriptorOf texts) ≡ Read args end → returnSlots (descriptorOf texts) ≡ NoSlots →
           Calls (fails notModelled)
       unfolding lookupBy
-      call-endless args end p r = rw (lt-ltb (pc + 2) (length code) whole, ← cites, ← found, known-some texts some, p, r)
+      call-endless args end p r =
+          some-known (calling takes) _ texts (ltb (pc + 2) (length code)) _ is some (rw (p, r))
 
       pub called :
           (args end gives : ℕ) → parameters (descriptorOf texts) ≡ Read args end →
           returnSlots (descriptorOf texts) ≡ SlotsOf gives → Calls (does (takes + args) (blanks gives))
       unfolding lookupBy
-      called args end gives p r = rw (lt-ltb (pc + 2) (length code) whole, ← cites, ← found, known-some texts some, p, r)
+      called args end gives p r =
+          some-known (calling takes) _ texts (ltb (pc + 2) (length code)) _ is some (rw (p, r))

@@ -1,13 +1,18 @@
 -- The lookup of members by a table of the run (crates/index/specs/Index.antt).
 -- Assumes nothing.
-use Prim.Native.Nat.{ℕ}
-use mathlib.Core.List.{List}
+use Prim.Native.Nat.{ℕ, _+_}
+use mathlib.Core.List.{List, []}
+use lib.Dec.{ltb}
+use lib.ListN.{length}
+use Rattle.basics.specs.Bytes.{u16At}
+use Rattle.basics.specs.Choice.{pick}
 use Rattle.index.specs.Index.{foundBy}
-use Rattle.effects.specs.Lookup.{Lookup, missing, knownBy}
+use Rattle.effects.specs.Lookup.{Lookup, knownBy}
 
 unfoldable pub lookupBy : List ℕ → ℕ → List ℕ → Lookup
 lookupBy members count table kind index = knownBy (foundBy members count table index kind)
 
--- where nothing is asked for
-abbrev pub nothing : Lookup
-nothing kind index = missing
+-- the texts of the member of a kind that the instruction at an index of a code cites; none where the pool index is cut
+abbrev pub citedTexts : List ℕ → ℕ → List ℕ → List ℕ → ℕ → ℕ → List ℕ
+citedTexts members count table code pc kind =
+    pick (ltb (pc + 2) (length code)) (foundBy members count table (u16At code (pc + 1)) kind) []

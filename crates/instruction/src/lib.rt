@@ -7,8 +7,9 @@ ghost use Prim.Native.Nat.{_-_, _≤_};
 ghost use lib.ListN.{length};
 ghost use Rattle.effects.specs.Rows.{rowOf, aload as aloadRow, gets as getsRow, calls as callsRow};
 ghost use Rattle.walk.specs.Walk.{effectBy};
+ghost use Rattle.walk.specs.Worked.{nothing};
 ghost use Rattle.instruction.specs.Code.{effectFrom, bare};
-ghost use Rattle.instruction.specs.Lookup.{nothing, lookupBy};
+ghost use Rattle.instruction.specs.Lookup.{lookupBy, citedTexts};
 
 // What an instruction does to the slots.
 pub enum Effect {
@@ -44,6 +45,23 @@ fn load_effect(code: &[u8], pc: usize) -> Effect
     }
 }
 
+// The texts of the member that the instruction at pc cites: none where its index is cut or there is no such member.
+fn cited_texts<'a>(
+    code: &[u8],
+    members: &'a [u8],
+    count: usize,
+    table: &[usize],
+    pc: usize,
+    kind: usize,
+) -> &'a [u8]
+    ensures { λ r. ⌜ now r ≡ citedTexts (now (members .entry)) count (now (table .entry)) (now (code .entry)) pc kind ⌝ }
+{
+    if bytes_from(code, pc) < 3 {
+        return &members[..0];
+    }
+    index::find_indexed(members, count, table, reads::read_u16(code, pc + 1), kind)
+}
+
 // The effect of reading the field that the instruction at pc cites.
 fn get_effect(
     code: &[u8],
@@ -56,10 +74,7 @@ fn get_effect(
     ensures { λ r. ⌜ effectFrom r ≡ bare (effectBy (lookupBy (now (members .entry)) count (now (table .entry)))
         (now (code .entry)) pc (getsRow takes)) ⌝ }
 {
-    if bytes_from(code, pc) < 3 {
-        return Effect::Fails;
-    }
-    let texts = index::find_indexed(members, count, table, reads::read_u16(code, pc + 1), 0);
+    let texts = cited_texts(code, members, count, table, pc, 0);
     if texts.len() == 0 {
         return Effect::Fails;
     }
@@ -82,10 +97,7 @@ fn call_effect(
     ensures { λ r. ⌜ effectFrom r ≡ bare (effectBy (lookupBy (now (members .entry)) count (now (table .entry)))
         (now (code .entry)) pc (callsRow takes)) ⌝ }
 {
-    if bytes_from(code, pc) < 3 {
-        return Effect::Fails;
-    }
-    let texts = index::find_indexed(members, count, table, reads::read_u16(code, pc + 1), 1);
+    let texts = cited_texts(code, members, count, table, pc, 1);
     if texts.len() == 0 {
         return Effect::Fails;
     }

@@ -1,7 +1,7 @@
 -- The walk from a leader to a fault (document 01, "The walk"), over any way to write slots and any table of rows. It is defined
 -- without room; Room.antt judges that.
 -- Assumes nothing.
-use Prim.Native.Nat.{ℕ, zero, suc, _+_, _-_, _^_}
+use Prim.Native.Nat.{ℕ, zero, suc, _+_, _-_}
 use mathlib.Core.Bool.{Bool}
 use mathlib.Core.List.{List, [], _∷_, _++_}
 use lib.Dec.{eqb, leb, ltb}
@@ -9,7 +9,7 @@ use lib.ListN.{length, take, drop, replicate}
 use Rattle.basics.specs.Bytes.{byteAt, u16At}
 use Rattle.basics.specs.Choice.{pick}
 use Rattle.fixed.specs.Fixed.{fixedLength}
-use Rattle.cell.specs.Cell.{cellOf}
+use Rattle.cell.specs.Cell.{cellOf, hasCell}
 use Rattle.descriptor.specs.Readers.{parameters, returnSlots, fieldSlots}
 use Rattle.descriptor.specs.declared.Params.{Params}
 use Rattle.descriptor.specs.declared.Params.the-variants.{Read, Unreadable as NoParams}
@@ -29,9 +29,9 @@ pub record Marks (A : Type 0) : Type 0 where
   pub mark : ℕ → ℕ → A
   pub holds : ℕ → ℕ → Bool
 
--- as cells
+-- as cells: "A cell is 0 when opaque"
 abbrev pub cells : Marks ℕ
-cells = record { blank = λ index. 0; mark = cellOf; holds = λ load local. leb (cellOf load local) (2 ^ 64 - 1) }
+cells = record { blank = λ index. 0; mark = cellOf; holds = hasCell }
 
 -- ---- an instruction's effect, with its operands read
 

@@ -9,7 +9,7 @@ use Rattle.effects.specs.Lookup.{Lookup, missing}
 use Rattle.effects.specs.Rows.{rowOf}
 use Rattle.walk.specs.Walk.{cells, done, walk}
 
--- of a class without members
+-- no member is known
 abbrev pub nothing : Lookup
 nothing kind index = missing
 

@@ -4,39 +4,20 @@ use native.Mathlib.Omega.{arith}
 use mathlib.Core.Path.{_∙_, ap, sym}
 use borrow.Author.Needs.{needs}
 use Rattle.descriptor.specs.Readers.{parameters, returnSlots}
-use Rattle.instruction.specs.Lookup.{lookupBy}
 use Rattle.instruction.proofs.Effects as laws
 use Rattle.instruction.proofs.Slots.{few-slots}
 use Rattle.instruction.proofs.call_effect.Statement.{statement}
 use Rattle.instruction.proofs.call_effect.Tie as tie
 
-bytes-from-requires : tie.Need-bytes-from-requires
-bytes-from-requires c κs = search needs
+cited-texts-requires : tie.Need-cited-texts-requires
+cited-texts-requires c κs = search needs
 
 returns : tie.Need-returns
 returns c =
-    let measured = c .before in
-    let a = measured .before .before .before .before .args in
-    laws.call-cut (a .code .now) (a .pc) (lookupBy (a .members .now) (a .count) (a .table .now)) (a .takes)
-    (omega (arith, measured .bytes-from .ensures))
-
-add-read-u16 : tie.Need-add-read-u16
-add-read-u16 c = search needs
-
-read-u16-requires : tie.Need-read-u16-requires
-read-u16-requires c κs = search needs
-
-find-indexed-requires : tie.Need-find-indexed-requires
-find-indexed-requires c κs = search needs
-
-returns-2 : tie.Need-returns-2
-returns-2 c =
     let found = c .before in
-    let measured = found .before .before .before in
-    let a = measured .before .before .before .before .args in
-    laws.call-missing (a .code .now) (a .pc) (a .members .now) (a .count) (a .table .now) (a .takes) _ _
-    (omega (arith, measured .bytes-from .ensures))
-    (found .before .read-u16 .ensures .0) (found .find-indexed .ensures .0) (c .if2 .taken)
+    let a = found .before .before .before .before .args in
+    laws.call-none (a .code .now) (a .pc) (a .members .now) (a .count) (a .table .now) (a .takes) _
+    (found .cited-texts .ensures) (c .if1 .taken)
 
 descriptor-of-requires : tie.Need-descriptor-of-requires
 descriptor-of-requires c κs = search needs
@@ -50,16 +31,14 @@ enum-known-args c = search needs
 enum-told : tie.Need-enum-told
 enum-told c = search needs
 
-returns-3 : tie.Need-returns-3
-returns-3 c =
+returns-2 : tie.Need-returns-2
+returns-2 c =
     let list = c .before .before in
     let part = list .before in
     let found = part .before .before in
-    let measured = found .before .before .before in
-    let a = measured .before .before .before .before .args in
-    laws.call-unread (a .code .now) (a .pc) (a .members .now) (a .count) (a .table .now) (a .takes) _ _
-    (omega (arith, measured .bytes-from .ensures))
-    (found .before .read-u16 .ensures .0) (found .find-indexed .ensures .0) (part .before .if2 .left)
+    let a = found .before .before .before .before .args in
+    laws.call-unread (a .code .now) (a .pc) (a .members .now) (a .count) (a .table .now) (a .takes) _
+    (found .cited-texts .ensures) (part .before .if1 .left)
     (ap parameters (sym (part .descriptor-of .ensures)) ∙ sym (list .parse-method-params .ensures) ∙ c .enum-told .given .1)
 
 return-type-slots-requires : tie.Need-return-type-slots-requires
@@ -71,42 +50,39 @@ enum-known-gives c = search needs
 enum-told-2 : tie.Need-enum-told-2
 enum-told-2 c = search needs
 
-returns-4 : tie.Need-returns-4
-returns-4 c =
+returns-3 : tie.Need-returns-3
+returns-3 c =
     let result = c .before .before in
     let list = result .before .before .before .before in
     let part = list .before in
     let found = part .before .before in
-    let measured = found .before .before .before in
-    let a = measured .before .before .before .before .args in
-    laws.call-endless (a .code .now) (a .pc) (a .members .now) (a .count) (a .table .now) (a .takes) _ _
-    (omega (arith, measured .bytes-from .ensures))
-    (found .before .read-u16 .ensures .0) (found .find-indexed .ensures .0) (part .before .if2 .left) _ _
+    let a = found .before .before .before .before .args in
+    laws.call-endless (a .code .now) (a .pc) (a .members .now) (a .count) (a .table .now) (a .takes) _
+    (found .cited-texts .ensures) (part .before .if1 .left) _ _
     (ap parameters (sym (part .descriptor-of .ensures)) ∙ sym (list .parse-method-params .ensures)
     ∙ result .before .before .args2 .given .1)
     (ap returnSlots (sym (part .descriptor-of .ensures)) ∙ sym (result .return-type-slots .ensures)
     ∙ c .enum-told2 .given .1)
 
-add-t13 : tie.Need-add-t13
-add-t13 c =
+-- a descriptor has few slots, and a row takes one at most
+add-t11 : tie.Need-add-t11
+add-t11 c =
     let result = c .before .before .before in
     let list = result .before .before .before .before in
     let part = list .before in
-    let start = part .before .before .before .before .before .before .before .before .before in
+    let start = part .before .before .before .before .before .before in
     let few = few-slots _ _ _ (sym (list .parse-method-params .ensures) ∙ result .before .before .args2 .given .1) in
     omega (arith, few, part .descriptor-of .ok, start .pre)
 
-returns-5 : tie.Need-returns-5
-returns-5 c =
+returns-4 : tie.Need-returns-4
+returns-4 c =
     let result = c .before .before .before in
     let list = result .before .before .before .before in
     let part = list .before in
     let found = part .before .before in
-    let measured = found .before .before .before in
-    let a = measured .before .before .before .before .args in
-    laws.called (a .code .now) (a .pc) (a .members .now) (a .count) (a .table .now) (a .takes) _ _
-    (omega (arith, measured .bytes-from .ensures))
-    (found .before .read-u16 .ensures .0) (found .find-indexed .ensures .0) (part .before .if2 .left) _ _ _
+    let a = found .before .before .before .before .args in
+    laws.called (a .code .now) (a .pc) (a .members .now) (a .count) (a .table .now) (a .takes) _
+    (found .cited-texts .ensures) (part .before .if1 .left) _ _ _
     (ap parameters (sym (part .descriptor-of .ensures)) ∙ sym (list .parse-method-params .ensures)
     ∙ result .before .before .args2 .given .1)
     (ap returnSlots (sym (part .descriptor-of .ensures)) ∙ sym (result .return-type-slots .ensures)
@@ -116,20 +92,16 @@ pub call-effect-spec : {M : Type 1} → statement M
 call-effect-spec =
     tie.close
     (tie.spec
-    bytes-from-requires
+    cited-texts-requires
     returns
-    add-read-u16
-    read-u16-requires
-    find-indexed-requires
-    returns-2
     descriptor-of-requires
     parse-method-params-requires
     enum-known-args
     enum-told
-    returns-3
+    returns-2
     return-type-slots-requires
     enum-known-gives
     enum-told-2
-    returns-4
-    add-t13
-    returns-5)
+    returns-3
+    add-t11
+    returns-4)

@@ -3,7 +3,7 @@
 use Prim.Native.Nat.{_+_}
 use native.Mathlib.Omega.{arith}
 use borrow.Author.Needs.{needs}
-use Rattle.instruction.specs.Lookup.{nothing}
+use Rattle.walk.specs.Worked.{nothing}
 use Rattle.instruction.proofs.Effects.{load-cut, loads}
 use Rattle.instruction.proofs.load_effect.Statement.{statement}
 use Rattle.instruction.proofs.load_effect.Tie as tie
