@@ -18,7 +18,7 @@ use Rattle.block.specs.declared.Step.{Step}
 use Rattle.block.specs.declared.Step.the-variants.{Stops, Lacks, Passes, Goes}
 use Rattle.walk.specs.declared.Walk.{Walk}
 use Rattle.walk.specs.declared.Walk.the-variants.{Done, Failed, NoRoom}
-use Rattle.block.proofs.Laying.{shown-take, shown-length, clean-shown, all-zero}
+use Rattle.block.proofs.Laying.{shown-take, shown-length, clean-shown}
 use Rattle.block.proofs.Walking.{onward, at, from, following, turn, ended-at, ended-past, stopped, lacked, passed}
 use Rattle.block.proofs.Walking.{Sized, went, kept-stopped, kept-lacked}
 
@@ -120,47 +120,51 @@ module _ (rows : ℕ → Row) (code members : List ℕ) (count leader fault : �
       abbrev now : Outcome ℕ
       now = here (length first) stack pc height completed i
 
-      -- left: the cells that the instruction leaves; cleared: the first of them, those of its slots, cleared
-      module _ (left cleared : List ℕ) (none : cleared ≡ replicate (length (take height left)) 0) where
-        all-cleared : left ≡ stack → cleared ++ drop height left ≡ replicate (length entry) 0
-        all-cleared kept =
-            ap (λ (l : List ℕ). cleared ++ drop height l) kept
-            ∙ all-zero stack height (i .1) cleared (none ∙ ap (λ (l : List ℕ). replicate (length (take height l)) 0) kept)
-            ∙ ap (λ (k : ℕ). replicate k 0) (i .0 ∙ same)
+      -- an instruction that stops, or lacks room, leaves the slots as they were
+      pub clean-stopped : (left : List ℕ) → Stepped stack Stops left now → Clean left height
+      clean-stopped left s = rw (kept-stopped stack left now s) (i .1)
 
-        pub ends-stopped :
-            pc < fault → Stepped stack Stops left now → Met entry (cleared ++ drop height left) (Failed completed)
+      pub clean-lacked : (left : List ℕ) → Stepped stack Lacks left now → Clean left height
+      clean-lacked left s = rw (kept-lacked stack left now s) (i .1)
+
+      -- left: the cells that the instruction leaves; final: these cleared
+      module _ (left final : List ℕ) (none : final ≡ replicate (length left) 0) where
+        cleared : length left ≡ length entry → final ≡ replicate (length entry) 0
+        cleared size = none ∙ ap (λ (k : ℕ). replicate k 0) size
+
+        as-long : left ≡ stack → length left ≡ length entry
+        as-long kept = ap length kept ∙ i .0 ∙ same
+
+        pub ends-stopped : pc < fault → Stepped stack Stops left now → Met entry final (Failed completed)
         ends-stopped short s =
             let t = stopped rows lookup code fault (length first) (i .2 .0 - 1) pc completed now
             (sized-so (length first) stack pc height completed i Stops (s .answers)) in
-            failed-so (cleared ++ drop height left) completed (t .0)
+            failed-so final completed (t .0)
             (sym (told (length first) stack pc height completed i short) ∙ t .1)
-            (all-cleared (kept-stopped stack left now s))
+            (cleared (as-long (kept-stopped stack left now s)))
 
-        pub ends-lacked : pc < fault → Stepped stack Lacks left now → Met entry (cleared ++ drop height left) (NoRoom pc)
+        pub ends-lacked : pc < fault → Stepped stack Lacks left now → Met entry final (NoRoom pc)
         ends-lacked short s =
             let t = lacked rows lookup code fault (length first) (i .2 .0 - 1) pc completed now
             (sized-so (length first) stack pc height completed i Lacks (s .answers)) in
             rw (ap whole (sym same) ∙ sym (told (length first) stack pc height completed i short) ∙ t)
-            (refl, all-cleared (kept-lacked stack left now s))
+            (refl, cleared (as-long (kept-lacked stack left now s)))
+
+        pub ends-passed :
+            pc < fault → length left ≡ length entry → Stepped stack Passes left now → Met entry final (Failed (completed + 1))
+        ends-passed short size s =
+            let t = passed rows lookup code fault (length first) (i .2 .0 - 1) pc completed now
+            (sized-so (length first) stack pc height completed i Passes (s .answers)) in
+            failed-so final (completed + 1) overshot (sym (told (length first) stack pc height completed i short) ∙ t)
+            (cleared size)
 
       pub ends-past :
-          fault ≤ pc → (pc ≡ fault → ⊥) → (cleared : List ℕ) → cleared ≡ replicate (length (take height stack)) 0 →
-          Met entry (cleared ++ drop height stack) (Failed completed)
-      ends-past l e cleared none =
-          failed-so (cleared ++ drop height stack) completed overshot
+          fault ≤ pc → (pc ≡ fault → ⊥) → (final : List ℕ) → final ≡ replicate (length stack) 0 →
+          Met entry final (Failed completed)
+      ends-past l e final none =
+          failed-so final completed overshot
           (sym (i .2 .3) ∙ ended-past rows lookup code fault (length first) (i .2 .0) pc completed (take height stack) l e)
-          (all-cleared stack cleared none refl)
-
-      -- the height after an instruction that passes the fault is not told: all cells are cleared
-      pub ends-passed :
-          pc < fault → (left final : List ℕ) → length left ≡ length entry → final ≡ replicate (length left) 0 →
-          Stepped stack Passes left now → Met entry final (Failed (completed + 1))
-      ends-passed short left final size none s =
-          let t = passed rows lookup code fault (length first) (i .2 .0 - 1) pc completed now
-          (sized-so (length first) stack pc height completed i Passes (s .answers)) in
-          failed-so final (completed + 1) overshot (sym (told (length first) stack pc height completed i short) ∙ t)
-          (none ∙ ap (λ (k : ℕ). replicate k 0) size)
+          (cleared stack final none (as-long stack final none refl))
 
       pub ends-done : pc ≡ fault → Met entry stack (Done height completed)
       ends-done e =

@@ -6,7 +6,7 @@ use walk::Walk;
 ghost use mathlib.Core.Path.{_≡_};
 ghost use Prim.Native.Nat.{_+_, _<_};
 ghost use lib.Dec.{leb};
-ghost use lib.ListN.{take};
+ghost use lib.ListN.{length, take, replicate};
 ghost use Rattle.basics.specs.Choice.{pick};
 ghost use Rattle.fixed.specs.Fixed.{FixedLengths};
 ghost use Rattle.index.specs.Index.{Indexed};
@@ -180,6 +180,16 @@ fn step_at(
     }
 }
 
+// Ends a walk that fails: its slots are cleared, and the cells above them are zero.
+fn give_up(stack: &mut [u64], height: usize, answer: Walk) -> Walk
+    requires { ⌜ Clean (now stack) height ⌝ }
+    ensures answers { λ r. ⌜ r ≡ answer ⌝ }
+    ensures leaves { λ r. ⌜ now (stack .exit) ≡ replicate (length (now (stack .entry))) 0 ⌝ }
+{
+    clear(&mut stack[..height]);
+    answer
+}
+
 // Walks from the leader to the fault, over the lent stack, by a table of the members.
 fn walk_block(
     code: &[u8],
@@ -211,14 +221,8 @@ fn walk_block(
             stack,
             height,
         ) {
-            Step::Stops => {
-                clear(&mut stack[..height]);
-                return Walk::Failed { count: completed };
-            }
-            Step::Lacks => {
-                clear(&mut stack[..height]);
-                return Walk::NoRoom { at: pc };
-            }
+            Step::Stops => return give_up(stack, height, Walk::Failed { count: completed }),
+            Step::Lacks => return give_up(stack, height, Walk::NoRoom { at: pc }),
             Step::Passes => {
                 clear(stack);
                 return Walk::Failed {
@@ -241,8 +245,7 @@ fn walk_block(
             count: completed,
         };
     }
-    clear(&mut stack[..height]);
-    Walk::Failed { count: completed }
+    give_up(stack, height, Walk::Failed { count: completed })
 }
 
 // The same, by a table that is made for this walk.

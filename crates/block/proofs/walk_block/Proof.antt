@@ -50,15 +50,15 @@ counted c =
 enum-told : tie.Need-enum-told Inv-loop μ-loop
 enum-told c = search needs
 
-slice-relend-prefix-clear : tie.Need-slice-relend-prefix-clear Inv-loop μ-loop
-slice-relend-prefix-clear c =
-    omega (arith, c .before .before .before .before .before .before .before .before .loop .inv .1 .high)
-
-slice-aggregate-clear : tie.Need-slice-aggregate-clear Inv-loop μ-loop
-slice-aggregate-clear c = sym (length-take-le _ _ (slice-relend-prefix-clear (c .before)))
-
-clear-requires-2 : tie.Need-clear-requires-2 Inv-loop μ-loop
-clear-requires-2 c κs = search needs
+give-up-requires : tie.Need-give-up-requires Inv-loop μ-loop
+give-up-requires c κs =
+    let turn = c .before .before .before .before .before in
+    let at = turn .before .before .before .before .loop in
+    let first = turn .before .before .before .before .before .before .before .before in
+    let a = first .before .before .before .before .before .before .args in
+    looping.clean-stopped rowOf (a .code .now) (a .members .now) (a .count) (a .leader) (a .fault) (a .stack .now) _
+    (first .clear .ensures) (at .stack) (at .pc) (at .height) (at .completed) (at .inv) _
+    (rw (c .before .enum-told .given .1) at (turn .step-at .ensures))
 
 same-length : tie.Need-same-length Inv-loop μ-loop
 same-length c = search needs
@@ -69,24 +69,25 @@ returns c =
     let at = turn .before .before .before .before .loop in
     let first = turn .before .before .before .before .before .before .before .before in
     let a = first .before .before .before .before .before .before .args in
-    looping.walks _ _ _ _ _ _ _ _
+    rw (c .before .before .give-up .ensures .0)
+    (looping.walks _ _ _ _ _ _ _ _
     (looping.ends-stopped rowOf (a .code .now) (a .members .now) (a .count) (a .leader) (a .fault) (a .stack .now) _
-    (first .clear .ensures) (at .stack) (at .pc) (at .height) (at .completed) (at .inv)
-    _ _ (c .before .before .clear2 .ensures) (turn .before .before .before .loop-test .taken)
-    (rw (c .before .before .before .before .enum-told .given .1) at (turn .step-at .ensures)))
+    (first .clear .ensures) (at .stack) (at .pc) (at .height) (at .completed) (at .inv) _ _
+    (c .before .before .give-up .ensures .1) (turn .before .before .before .loop-test .taken)
+    (rw (c .before .before .before .before .enum-told .given .1) at (turn .step-at .ensures))))
 
 enum-told-2 : tie.Need-enum-told-2 Inv-loop μ-loop
 enum-told-2 c = search needs
 
-slice-relend-prefix-clear-2 : tie.Need-slice-relend-prefix-clear-2 Inv-loop μ-loop
-slice-relend-prefix-clear-2 c =
-    omega (arith, c .before .before .before .before .before .before .before .before .loop .inv .1 .high)
-
-slice-aggregate-clear-2 : tie.Need-slice-aggregate-clear-2 Inv-loop μ-loop
-slice-aggregate-clear-2 c = sym (length-take-le _ _ (slice-relend-prefix-clear-2 (c .before)))
-
-clear-requires-3 : tie.Need-clear-requires-3 Inv-loop μ-loop
-clear-requires-3 c κs = search needs
+give-up-requires-2 : tie.Need-give-up-requires-2 Inv-loop μ-loop
+give-up-requires-2 c κs =
+    let turn = c .before .before .before .before .before in
+    let at = turn .before .before .before .before .loop in
+    let first = turn .before .before .before .before .before .before .before .before in
+    let a = first .before .before .before .before .before .before .args in
+    looping.clean-lacked rowOf (a .code .now) (a .members .now) (a .count) (a .leader) (a .fault) (a .stack .now) _
+    (first .clear .ensures) (at .stack) (at .pc) (at .height) (at .completed) (at .inv) _
+    (rw (c .before .enum-told2 .given .1) at (turn .step-at .ensures))
 
 same-length-2 : tie.Need-same-length-2 Inv-loop μ-loop
 same-length-2 c = search needs
@@ -97,17 +98,18 @@ returns-2 c =
     let at = turn .before .before .before .before .loop in
     let first = turn .before .before .before .before .before .before .before .before in
     let a = first .before .before .before .before .before .before .args in
-    looping.walks _ _ _ _ _ _ _ _
+    rw (c .before .before .give-up2 .ensures .0)
+    (looping.walks _ _ _ _ _ _ _ _
     (looping.ends-lacked rowOf (a .code .now) (a .members .now) (a .count) (a .leader) (a .fault) (a .stack .now) _
-    (first .clear .ensures) (at .stack) (at .pc) (at .height) (at .completed) (at .inv)
-    _ _ (c .before .before .clear3 .ensures) (turn .before .before .before .loop-test .taken)
-    (rw (c .before .before .before .before .enum-told2 .given .1) at (turn .step-at .ensures)))
+    (first .clear .ensures) (at .stack) (at .pc) (at .height) (at .completed) (at .inv) _ _
+    (c .before .before .give-up2 .ensures .1) (turn .before .before .before .loop-test .taken)
+    (rw (c .before .before .before .before .enum-told2 .given .1) at (turn .step-at .ensures))))
 
 enum-told-3 : tie.Need-enum-told-3 Inv-loop μ-loop
 enum-told-3 c = search needs
 
-clear-requires-4 : tie.Need-clear-requires-4 Inv-loop μ-loop
-clear-requires-4 c κs = search needs
+clear-requires-2 : tie.Need-clear-requires-2 Inv-loop μ-loop
+clear-requires-2 c κs = search needs
 
 add-t32 : tie.Need-add-t32 Inv-loop μ-loop
 add-t32 c = omega (arith, counted (c .before .before .before .before .before .before .before .before))
@@ -123,8 +125,8 @@ returns-3 c =
     let a = first .before .before .before .before .before .before .args in
     looping.walks _ _ _ _ _ _ _ _
     (looping.ends-passed rowOf (a .code .now) (a .members .now) (a .count) (a .leader) (a .fault) (a .stack .now) _
-    (first .clear .ensures) (at .stack) (at .pc) (at .height) (at .completed) (at .inv)
-    (turn .before .before .before .loop-test .taken) _ _ (omega arith) (c .before .before .clear4 .ensures)
+    (first .clear .ensures) (at .stack) (at .pc) (at .height) (at .completed) (at .inv) _ _
+    (c .before .before .clear2 .ensures) (turn .before .before .before .loop-test .taken) (omega arith)
     (rw (c .before .before .before .before .enum-told3 .given .1) at (turn .step-at .ensures)))
 
 enum-known-next : tie.Need-enum-known-next Inv-loop μ-loop
@@ -170,14 +172,8 @@ returns-4 c =
     (looping.ends-done rowOf (a .code .now) (a .members .now) (a .count) (a .leader) (a .fault) (a .stack .now) _
     (first .clear .ensures) (at .stack) (at .pc) (at .height) (at .completed) (at .inv) (c .if1 .taken))
 
-slice-relend-prefix-clear-3 : tie.Need-slice-relend-prefix-clear-3 Inv-loop μ-loop
-slice-relend-prefix-clear-3 c = c .before .before .loop .inv .1 .high
-
-slice-aggregate-clear-3 : tie.Need-slice-aggregate-clear-3 Inv-loop μ-loop
-slice-aggregate-clear-3 c = sym (length-take-le _ _ (slice-relend-prefix-clear-3 (c .before)))
-
-clear-requires-5 : tie.Need-clear-requires-5 Inv-loop μ-loop
-clear-requires-5 c κs = search needs
+give-up-requires-3 : tie.Need-give-up-requires-3 Inv-loop μ-loop
+give-up-requires-3 c κs = c .before .before .before .loop .inv .1
 
 same-length-5 : tie.Need-same-length-5 Inv-loop μ-loop
 same-length-5 c = search needs
@@ -188,10 +184,11 @@ returns-5 c =
     let at = after .before .before .loop in
     let first = after .before .before .before .before .before .before in
     let a = first .before .before .before .before .before .before .args in
-    looping.walks _ _ _ _ _ _ _ _
+    rw (c .before .before .give-up3 .ensures .0)
+    (looping.walks _ _ _ _ _ _ _ _
     (looping.ends-past rowOf (a .code .now) (a .members .now) (a .count) (a .leader) (a .fault) (a .stack .now) _
     (first .clear .ensures) (at .stack) (at .pc) (at .height) (at .completed) (at .inv)
-    (after .before .loop-test .left) (after .if1 .left) _ (c .before .before .clear5 .ensures))
+    (after .before .loop-test .left) (after .if1 .left) _ (c .before .before .give-up3 .ensures .1)))
 
 pub walk-block-spec : {M : Type 1} → statement M
 walk-block-spec =
@@ -204,19 +201,15 @@ walk-block-spec =
     loop-holds
     step-at-requires
     enum-told
-    slice-relend-prefix-clear
-    slice-aggregate-clear
-    clear-requires-2
+    give-up-requires
     same-length
     returns
     enum-told-2
-    slice-relend-prefix-clear-2
-    slice-aggregate-clear-2
-    clear-requires-3
+    give-up-requires-2
     same-length-2
     returns-2
     enum-told-3
-    clear-requires-4
+    clear-requires-2
     add-t32
     same-length-3
     returns-3
@@ -226,8 +219,6 @@ walk-block-spec =
     loop-again
     same-length-4
     returns-4
-    slice-relend-prefix-clear-3
-    slice-aggregate-clear-3
-    clear-requires-5
+    give-up-requires-3
     same-length-5
     returns-5)
