@@ -1,8 +1,8 @@
 //! One descriptor on both sides: the lenient readers and the strict ones; and descriptors to compare.
 use crate::book::Column;
 use crate::cases::Run;
+use crate::damage::damage;
 use crate::differences::Listed;
-use crate::make::damage;
 use crate::random::Random;
 use crate::sides::{quietly, Build, Checked, Holding, Wrapped};
 use korsepal::Parameters;

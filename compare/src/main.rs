@@ -3,6 +3,7 @@ mod book;
 mod cases;
 mod classes;
 mod classfile;
+mod damage;
 mod descriptors;
 mod differences;
 mod layout;

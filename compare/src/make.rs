@@ -1,4 +1,5 @@
 //! Inputs: cases with structure, damaged ones, cases at the edges, and random bytes.
+use crate::damage::damage;
 use crate::descriptors::{any_method, any_type};
 use crate::layout::{lay_out, Member, Parts, Record};
 use crate::random::Random;
@@ -414,25 +415,6 @@ fn parts(random: &mut Random) -> Parts {
 
 fn structured(random: &mut Random) -> Vec<u8> {
     lay_out(&parts(random))
-}
-
-/// Changes, inserts, removes or cuts off a few bytes.
-pub fn damage(random: &mut Random, bytes: &mut Vec<u8>) {
-    for _ in 0..random.between(1, 3) {
-        let at = random.below(bytes.len() + 1);
-        match random.below(8) {
-            0 => bytes.insert(at, random.byte()),
-            1 if at < bytes.len() => {
-                bytes.remove(at);
-            }
-            2 if random.once_in(3) => bytes.truncate(at),
-            3 if at < bytes.len() => bytes[at] ^= 128,
-            4 if at < bytes.len() => bytes[at] = bytes[at].wrapping_add(1),
-            5 if at < bytes.len() => bytes[at] = bytes[at].wrapping_sub(1),
-            _ if at < bytes.len() => bytes[at] = random.byte(),
-            _ => bytes.push(random.byte()),
-        }
-    }
 }
 
 fn damaged_code(random: &mut Random) -> Vec<u8> {
