@@ -1,0 +1,157 @@
+// Replays rows of data: what the library answers to a row is written as text and compared with the answer that the row holds. A
+// row that can't be read disagrees. Each disagreement is printed, and for each file how many of its rows agree. The file wrong has
+// rows that must disagree, of each kind one at least, so a program that compares nothing would print something else.
+mod case_rows;
+mod code_rows;
+mod name_rows;
+mod strict_rows;
+mod told;
+
+use check::same;
+use notation::after;
+use notation::between;
+use notation::is_answered;
+use notation::is_row;
+use notation::kind_of;
+use notation::part_at;
+use notation::read_file;
+use notation::read_row;
+use notation::say_agreed;
+use told::Told;
+ghost use Prim.Native.Nat.{_≤_};
+
+// The kinds of rows. The comments at the functions say what the fields are.
+fn kinds() -> [u8; 677] {
+    *b"length -xa |#;none\n\
+      leader -xa |leader #, scan #;no length at #, scan #\n\
+      members -dy |# members\n\
+      walk -xabc |height #, count # |$;fails, count # |$;no room at # |$\n\
+      type xa |0 # |$;# |$\n\
+      method xa |0 # |$;# |$\n\
+      texts x |$\n\
+      digests x |# #\n\
+      case -x |0, flags #, fault #, code #+#, signature #+#, members #+# of #, records #+# of #;2 at #;5\n\
+      number -xa |#, then #;no number\n\
+      member -xabc |#, class to #, name to # [$]\n\
+      record -xa |# # #, name #+#, next #;wrong at #\n\
+      descriptor x |($), slots #, return #, field #;($), slots #, no return, field #;unreadable, return #, field #;unreadable, no return, field #\n\
+      class xabc |next #, $\n\
+      decimal abc |next #, $\n\
+      static -xaybc |\"$\"\n\
+      instance -xaybc |\"$\"\n"
+}
+
+// What the library answers to the fields of a row of a kind. A text that goes with it is in the output, which has dots at first.
+fn tell(out: &mut [u8], kind: usize, x: &[u8], y: &[u8], v: &[usize; 7]) -> Told {
+    match kind {
+        0 => code_rows::length(x, v[2]),
+        1 => code_rows::leader(x, v[2]),
+        2 => told::told(0, v[5], 0, 0),
+        3 => code_rows::walk(out, x, y, v[5], v[2], v[3], v[4]),
+        4 => strict_rows::text(out, false, x, v[2]),
+        5 => strict_rows::text(out, true, x, v[2]),
+        6 => strict_rows::texts(out, x),
+        7 => strict_rows::digests(x),
+        8 => case_rows::case(x),
+        9 => case_rows::number(x, v[2]),
+        10 => case_rows::member(out, x, v[2], v[3], v[4]),
+        11 => case_rows::record(x, v[2]),
+        12 => name_rows::descriptor(out, x),
+        13 => name_rows::class(out, x, v[2], v[3], v[4]),
+        14 => name_rows::decimal(out, v[2], v[3], v[4]),
+        15 => name_rows::local(out, false, x, v[2], y, v[3], v[4]),
+        16 => name_rows::local(out, true, x, v[2], y, v[3], v[4]),
+        _ => told::nothing(),
+    }
+}
+
+// As many bytes as a case may have, and one more.
+fn room() -> [u8; 1048577] {
+    [0u8; 1048577]
+}
+
+// Whether the library answers what a row says, given the row that holds its members.
+fn agrees(list: &[u8], row: &[u8], members: &[u8]) -> bool {
+    let mut x = room();
+    let mut y = [0u8; 512];
+    let mut v = [0usize; 7];
+    let mut text = [b'.'; 2048];
+    let kind = read_row(list, row, members, &mut v, &mut x, &mut y);
+    let told = tell(
+        &mut text,
+        kind,
+        between(&x, 0, v[0]),
+        between(&y, 0, v[1]),
+        &v,
+    );
+    is_answered(list, row, &told, &text)
+}
+
+// 1 for a line that is a row and agrees, else 0.
+fn agreed(line: &[u8], members: &[u8]) -> usize
+    ensures { λ r. ⌜ r ≤ 1 ⌝ }
+{
+    if is_row(line) {
+        if agrees(&kinds(), line, members) {
+            return 1;
+        }
+    }
+    0
+}
+
+// The place of a line that holds the members of the walks behind it, or the one before.
+fn later(line: &[u8], at: usize, before: usize) -> usize {
+    if same(kind_of(line), b"members") {
+        return at;
+    }
+    before
+}
+
+// Answers how many rows of a file agree. There are no more lines than bytes, and behind the last there is no row.
+fn replay(file: &[u8]) -> usize {
+    let mut at: usize = 0;
+    let mut members = file.len();
+    let mut agreeing: usize = 0;
+    let mut left = file.len();
+    while 0 < left {
+        let line = part_at(file, at, b'\n');
+        members = later(line, at, members);
+        agreeing += agreed(line, part_at(file, members, b'\n'));
+        at = after(at, line);
+        left -= 1;
+    }
+    agreeing
+}
+
+fn file_room() -> [u8; 262144] {
+    [0u8; 262144]
+}
+
+// Replays a file of data.
+fn show(name: &[u8]) {
+    let mut buffer = file_room();
+    let size = read_file(&mut buffer, name);
+    say_agreed(name, replay(between(&buffer, 0, size)));
+}
+
+fn show_named(name: &[u8]) {
+    if 0 < name.len() {
+        show(name);
+    }
+}
+
+// Shows each file of a list, a line each. There are no more lines than bytes, and behind the last there is no name.
+fn show_all(names: &[u8]) {
+    let mut at: usize = 0;
+    let mut left = names.len();
+    while 0 < left {
+        let name = part_at(names, at, b'\n');
+        show_named(name);
+        at = after(at, name);
+        left -= 1;
+    }
+}
+
+fn main() {
+    show_all(b"lengths\nleaders\nwalks\nnames\nlocals\nstrict\ncases\nwrong\n");
+}
