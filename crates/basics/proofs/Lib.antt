@@ -1,5 +1,6 @@
 pub mod Bytes
 pub mod Choice
+pub mod Each
 pub mod Every
 pub mod Keys
 pub mod Outcome

@@ -1,5 +1,6 @@
 pub mod Ascii
 pub mod Bytes
 pub mod Choice
+pub mod Each
 pub mod Member
 pub mod Parts

@@ -9,18 +9,20 @@ use lib.ListN.{length, take, drop, replicate, length-replicate}
 use lib.Seq.{length-take-le}
 use borrow.Author.Tests.{le-leb}
 use Rattle.basics.specs.Bytes.{AreBytes}
+use Rattle.effects.specs.Agreement.{Sized}
 use Rattle.effects.specs.Lookup.{Lookup, lookupIn}
 use Rattle.effects.specs.Rows.{Row, rowOf}
 use Rattle.block.specs.Inner.{Clean, stepOf, steppedIn, Stepped}
 use Rattle.walk.specs.Room.{completed, Roomed, fits, blockWalkBy, blockWalk, answerOf, shown, cellsOf, Walks}
-use Rattle.walk.specs.Walk.{Reason, overshot, Outcome, goes, failed, walk}
+use Rattle.walk.specs.Walk.{Reason, overshot, cells, Outcome, goes, failed, walk}
+use Rattle.walk.proofs.Step.{onward}
 use Rattle.block.specs.declared.Step.{Step}
 use Rattle.block.specs.declared.Step.the-variants.{Stops, Lacks, Passes, Goes}
 use Rattle.walk.specs.declared.Walk.{Walk}
 use Rattle.walk.specs.declared.Walk.the-variants.{Done, Failed, NoRoom}
 use Rattle.block.proofs.Laying.{shown-take, shown-length, clean-shown}
-use Rattle.block.proofs.Walking.{onward, at, from, following, turn, ended-at, ended-past, stopped, lacked, passed}
-use Rattle.block.proofs.Walking.{Sized, went, kept-stopped, kept-lacked}
+use Rattle.block.proofs.Walking.{at, from, following, turn, ended-at, ended-past, stopped, lacked, passed}
+use Rattle.block.proofs.Walking.{went, kept-stopped, kept-lacked}
 
 module _ (rows : ℕ → Row) (code members : List ℕ) (count leader fault : ℕ) where
   abbrev lookup : Lookup
@@ -90,7 +92,7 @@ module _ (rows : ℕ → Row) (code members : List ℕ) (count leader fault : �
       pub up : pc < next
       up =
           let w = went rows lookup code fault room next high here (sized-so (Goes next high) (s .answers)) in
-          onward rows lookup code fault pc (take height stack) sized bytes next (w .0) (w .1)
+          onward cells rows lookup code fault pc (take height stack) sized bytes next (w .0) (w .1)
 
       pub again : Inv room left next high (completed + 1)
       again =
@@ -112,9 +114,9 @@ module _ (rows : ℕ → Row) (code members : List ℕ) (count leader fault : �
     same = ap length zeros ∙ length-replicate (length entry) 0
 
     failed-so :
-        (left : List ℕ) (completed : ℕ) (reason : Reason) → whole (length first) ≡ fits (failed completed reason) →
+        (left : List ℕ) (completed index : ℕ) (reason : Reason) → whole (length first) ≡ fits (failed completed index reason) →
         left ≡ replicate (length entry) 0 → Met entry left (Failed completed)
-    failed-so left completed reason e l = rw (ap whole (sym same) ∙ e) (refl, l)
+    failed-so left completed index reason e l = rw (ap whole (sym same) ∙ e) (refl, l)
 
     module _ (stack : List ℕ) (pc height completed : ℕ) (i : Inv (length first) stack pc height completed) where
       abbrev now : Outcome ℕ
@@ -139,7 +141,7 @@ module _ (rows : ℕ → Row) (code members : List ℕ) (count leader fault : �
         ends-stopped short s =
             let t = stopped rows lookup code fault (length first) (i .2 .0 - 1) pc completed now
             (sized-so (length first) stack pc height completed i Stops (s .answers)) in
-            failed-so final completed (t .0)
+            failed-so final completed pc (t .0)
             (sym (told (length first) stack pc height completed i short) ∙ t .1)
             (cleared (as-long (kept-stopped stack left now s)))
 
@@ -155,14 +157,14 @@ module _ (rows : ℕ → Row) (code members : List ℕ) (count leader fault : �
         ends-passed short size s =
             let t = passed rows lookup code fault (length first) (i .2 .0 - 1) pc completed now
             (sized-so (length first) stack pc height completed i Passes (s .answers)) in
-            failed-so final (completed + 1) overshot (sym (told (length first) stack pc height completed i short) ∙ t)
+            failed-so final (completed + 1) pc overshot (sym (told (length first) stack pc height completed i short) ∙ t)
             (cleared size)
 
       pub ends-past :
           fault ≤ pc → (pc ≡ fault → ⊥) → (final : List ℕ) → final ≡ replicate (length stack) 0 →
           Met entry final (Failed completed)
       ends-past l e final none =
-          failed-so final completed overshot
+          failed-so final completed pc overshot
           (sym (i .2 .3) ∙ ended-past rows lookup code fault (length first) (i .2 .0) pc completed (take height stack) l e)
           (cleared stack final none (as-long stack final none refl))
 

@@ -8,9 +8,9 @@ use mathlib.Core.List.{List}
 use lib.Dec.{leb}
 use lib.ListN.{length}
 use borrow.Author.Tests.{lt-ltb, le-ltb}
-use Rattle.basics.specs.Bytes.{byteAt}
 use Rattle.basics.specs.Choice.{pick}
-use Rattle.fixed.specs.Fixed.{fixedLength}
+use Rattle.jvms.specs.Stack.{keyAt}
+use Rattle.fixed.specs.Fixed.{sizeAt}
 use Rattle.effects.specs.Lookup.{Lookup}
 use Rattle.effects.specs.Rows.{Row}
 use Rattle.walk.specs.Walk.{Reason, tooFew, cells, blanks, load, carried, unread, Effect, fails, does, effectBy, Made}
@@ -102,15 +102,15 @@ module _ (rows : ℕ → Row) (lookup : Lookup) (code : List ℕ) (fault pc : �
 
   -- effect: what the code read
   module _ (inside : pc < length code) (effect : Effect)
-      (read : effect ≡ bare (effectBy lookup code pc (rows (byteAt code pc)))) (left : List ℕ) where
+      (read : effect ≡ bare (effectBy lookup code pc (rows (keyAt code pc)))) (left : List ℕ) where
     abbrev known : Height → Type 0
     known answer = Laid stack answer left (applied cells pc effect slots)
 
     lay :
         (answer : Height) → known answer →
-        Laid stack answer left (applied cells pc (effectBy lookup code pc (rows (byteAt code pc))) slots)
+        Laid stack answer left (applied cells pc (effectBy lookup code pc (rows (keyAt code pc))) slots)
     lay answer laid =
-        with-reason stack answer left pc slots (effectBy lookup code pc (rows (byteAt code pc))) (rw read at laid)
+        with-reason stack answer left pc slots (effectBy lookup code pc (rows (keyAt code pc))) (rw read at laid)
 
     pub stops-at : known Refused → Steps Stops left
     unfolding step
@@ -121,7 +121,7 @@ module _ (rows : ℕ → Row) (lookup : Lookup) (code : List ℕ) (fault pc : �
     lacks-at laid = rw (lt-ltb pc (length code) inside) (exceeds stack left fault _ _ (lay Over laid))
 
     pub lands-at :
-        (height size : ℕ) (answer : Step) → size ≡ fixedLength (byteAt code pc) → known (High height) →
+        (height size : ℕ) (answer : Step) → size ≡ sizeAt code pc → known (High height) →
         answer ≡ pick (leb (pc + size) fault) (Goes (pc + size) height) Passes → Steps answer left
     unfolding step
     lands-at height size answer e laid a =

@@ -4,7 +4,6 @@
 use Prim.Native.Nat.{ℕ, zero, suc, _+_, _-_, _≤_}
 use native.Mathlib.Omega.{arith}
 use mathlib.Core.Path.{_≡_, refl}
-use mathlib.Core.Bool.{Bool, true, false}
 use mathlib.Core.List.{List, [], _∷_}
 use lib.Dec.{eqb, leb, ltb, lit≤}
 use lib.ListN.{length}
@@ -13,11 +12,11 @@ use Rattle.basics.specs.Choice.{pick}
 use Rattle.basics.proofs.Choice.{chosen}
 use Rattle.bytecode.specs.Length.{lengthOf}
 use Rattle.bytecode.specs.declared.Measure.{Measure}
-use Rattle.bytecode.specs.declared.Measure.the-variants.{Length, NoLength}
 use Rattle.greatest.specs.Greatest.{greatest as greatestOf}
-use Rattle.leader.specs.Scan.{Instructions, ended as scanEnded, unmeasured, instruction, scanStep, scanFrom, instructions, scanCount, leadersOf, answered, blockLeader}
+use Rattle.leader.specs.Scan.{Instructions, ended as scanEnded, unmeasured, instruction, scanFrom, instructions, scanCount, leadersOf, answered, blockLeader}
 use Rattle.leader.specs.declared.Scan.{Scan}
 use Rattle.leader.specs.declared.Scan.the-variants.{Leader, Unmeasured}
+use Rattle.leader.proofs.Scanning.{Turn, at-end, without, with-length, turn}
 use Rattle.number.specs.Number.{greatest}
 use Rattle.casefile.specs.Parts.{Parts, partsOf}
 use Rattle.casefile.specs.Whole.{caseOf}
@@ -28,15 +27,15 @@ use Rattle.cases.proofs.Laying.{accepted-is-laid-out}
 use Rattle.effects.specs.Lookup.{Lookup, lookupIn}
 use Rattle.effects.specs.Rows.{Row, rowOf}
 use Rattle.walk.specs.Room.{Completed, Roomed, lacks, fits, judged, completed, blockWalk}
-use Rattle.walk.specs.Walk.{Marks, cells, Outcome, stops, goes, passes, Walked, done, failed, overshot, ended, after, step, walkFrom, walk}
+use Rattle.walk.specs.Walk.{Marks, cells, Outcome, stops, goes, passes, Walked, done, failed, countOf as blockCount, overshot, ended, after, step, walkFrom, walk}
 use Rattle.cell.specs.declared.Slot.{Slot}
 use Rattle.cell.specs.declared.Slot.the-variants.{Other, Loaded}
 use Rattle.fault.specs.Decoding.{decoded}
 use Rattle.fault.specs.declared.Fault.{Fault}
 use Rattle.fault.specs.declared.Fault.the-variants.{Failed, Nothing}
 use Rattle.answer.specs.Answer.{kindOf, Said, silent, roomless, said, needed, answerBy}
-use Rattle.report.specs.Report.{messageOf, saidBy, saidAt, saidOf, answerOf, reportOf}
-use Rattle.trace.specs.Trace.{traceOf, tracedBy, traced}
+use Rattle.report.specs.Report.{scanOf, tracedIn, messageOf, saidBy, saidAt, saidOf, answerOf, reportOf}
+use Rattle.trace.specs.Trace.{traceOf, tracedBy}
 use Rattle.answer.specs.declared.Report.the-variants.{Message, NoOutput}
 use Rattle.trace.specs.declared.Trace.{Trace}
 use Rattle.trace.specs.declared.Trace.the-variants.{NoRoom, Traced}
@@ -44,20 +43,17 @@ use Rattle.bounds.specs.Counts.{Small, CountsSmall}
 
 -- ---- the scan
 
-scan-step :
-    (b : Bool) (m : Measure) (k pc : ℕ) (following : ℕ → Instructions) → ((at : ℕ) → scanCount (following at) ≤ k) →
-    scanCount (scanStep b m pc following) ≤ suc k
-unfolding scanCount
-scan-step false m k pc following rest = omega arith
-scan-step true (Length n) k pc following rest = omega (arith, rest (pc + n))
-scan-step true NoLength k pc following rest = omega arith
-
 scan-within : (measure : List ℕ → ℕ → Measure) (code : List ℕ) (k pc : ℕ) → scanCount (scanFrom measure code k pc) ≤ k
 unfolding scanFrom scanCount
 scan-within measure code zero pc = omega arith
-scan-within measure code (suc k) pc =
-    scan-step (ltb pc (length code)) (measure code pc) k pc (λ next. scanFrom measure code k next)
-    (λ at. scan-within measure code k at)
+scan-within measure code (suc k) pc = by-turn (turn measure code pc k) (λ at. scan-within measure code k at)
+  where
+    by-turn :
+        {found : Instructions} → Turn measure code pc k found → ((at : ℕ) → scanCount (scanFrom measure code k at) ≤ k) →
+        scanCount found ≤ suc k
+    by-turn (at-end here) rest = omega arith
+    by-turn (without inside none) rest = omega arith
+    by-turn (with-length {n = n} inside measured) rest = omega (arith, rest (pc + n))
 
 abbrev countOf : Scan → ℕ
 countOf (Leader at count) = count
@@ -81,42 +77,38 @@ scanned code fault =
 
 -- ---- the walk
 
-abbrev completedBy : {A : Type 0} → Walked A → ℕ
-completedBy (done slots count) = count
-completedBy (failed count reason) = count
-
 module _ {A : Type 0} (marks : Marks A) (rows : ℕ → Row) (lookup : Lookup) (code : List ℕ) (fault : ℕ) where
-  end-within : (pc : ℕ) (slots : List A) (count more : ℕ) → completedBy (ended marks rows lookup code fault pc slots count) ≤ count + more
+  end-within : (pc : ℕ) (slots : List A) (count more : ℕ) → blockCount (ended marks rows lookup code fault pc slots count) ≤ count + more
   end-within pc slots count more =
-      chosen (λ (w : Walked A). completedBy w ≤ count + more) (eqb pc fault) (done slots count) (failed count overshot)
+      chosen (λ (w : Walked A). blockCount w ≤ count + more) (eqb pc fault) (done slots count) (failed count pc overshot)
       (omega arith) (omega arith)
 
   after-within :
-      (o : Outcome A) (count turns : ℕ) (following : ℕ → List A → Walked A) →
-      ((next : ℕ) (slots : List A) → completedBy (following next slots) ≤ count + 1 + turns) →
-      completedBy (after marks rows lookup code fault o count following) ≤ count + suc turns
-  after-within (stops reason) count turns following rest = omega arith
-  after-within (goes next slots) count turns following rest = omega (arith, rest next slots)
-  after-within (passes slots) count turns following rest = omega arith
+      (o : Outcome A) (pc count turns : ℕ) (following : ℕ → List A → Walked A) →
+      ((next : ℕ) (slots : List A) → blockCount (following next slots) ≤ count + 1 + turns) →
+      blockCount (after marks rows lookup code fault o pc count following) ≤ count + suc turns
+  after-within (stops reason) pc count turns following rest = omega arith
+  after-within (goes next slots) pc count turns following rest = omega (arith, rest next slots)
+  after-within (passes slots) pc count turns following rest = omega arith
 
   walk-within :
       (turns pc : ℕ) (slots : List A) (count : ℕ) →
-      completedBy (walkFrom marks rows lookup code fault turns pc slots count) ≤ count + turns
+      blockCount (walkFrom marks rows lookup code fault turns pc slots count) ≤ count + turns
   unfolding walkFrom
   walk-within zero pc slots count = end-within pc slots count 0
   walk-within (suc turns) pc slots count =
-      chosen (λ (w : Walked A). completedBy w ≤ count + suc turns) (ltb pc fault) _ _
-      (after-within (step marks rows lookup code fault pc slots) count turns
+      chosen (λ (w : Walked A). blockCount w ≤ count + suc turns) (ltb pc fault) _ _
+      (after-within (step marks rows lookup code fault pc slots) pc count turns
       (λ next list. walkFrom marks rows lookup code fault turns next list (count + 1))
       (λ next list. walk-within turns next list (count + 1)))
       (end-within pc slots count (suc turns))
 
 abbrev Within : {A : Type 0} → ℕ → Roomed A → Type 0
 Within limit (lacks index) = Unit {0}
-Within limit (fits walked) = completedBy walked ≤ limit
+Within limit (fits walked) = blockCount walked ≤ limit
 
 judged-within :
-    {A : Type 0} (limit room : ℕ) (cs : List Completed) (walked : Walked A) → completedBy walked ≤ limit →
+    {A : Type 0} (limit room : ℕ) (cs : List Completed) (walked : Walked A) → blockCount walked ≤ limit →
     Within limit (judged room cs walked)
 judged-within limit room [] walked small = small
 judged-within limit room (c ∷ cs) walked small =
@@ -146,12 +138,11 @@ small-trace :
     (scan depth limit : ℕ) (r : Roomed ℕ) → scan ≤ greatest → limit ≤ greatest → Within limit r → SmallTrace (traceOf scan depth r)
 small-trace scan depth limit (lacks index) few most within = tt
 small-trace scan depth limit (fits (done slots block)) few most within = (few, omega arith)
-small-trace scan depth limit (fits (failed block reason)) few most within = (few, omega arith)
+small-trace scan depth limit (fits (failed block index reason)) few most within = (few, omega arith)
 
 module _ (p : Parts) (laid : LaidOut p) (room : ℕ) where
-  traced-small : (depth : ℕ) → SmallTrace (traced (p .code) (p .members) (p .memberCount) (p .fault) depth room)
-  unfolding traced
-  traced-small depth = by-scan (blockLeader lengthOf [] (p .code) (p .fault)) (scanned (p .code) (p .fault))
+  traced-small : (depth : ℕ) → SmallTrace (tracedIn p depth room)
+  traced-small depth = by-scan (scanOf p) (scanned (p .code) (p .fault))
     where
       by-scan :
           (s : Scan) → countOf s ≤ length (p .code) →
@@ -173,7 +164,7 @@ module _ (p : Parts) (laid : LaidOut p) (room : ℕ) where
       by-fault : (f : Fault) → SmallSaid (saidAt p room f)
       by-fault Nothing = tt
       by-fault (Failed action depth) =
-          by-trace (traced (p .code) (p .members) (p .memberCount) (p .fault) depth room) (traced-small depth)
+          by-trace (tracedIn p depth room) (traced-small depth)
         where
           by-trace : (t : Trace) → SmallTrace t → SmallSaid (saidBy p action t)
           by-trace (NoRoom index) small = tt

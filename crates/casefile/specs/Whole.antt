@@ -15,15 +15,14 @@ use Rattle.casefile.specs.declared.TablePlaces.{TablePlaces}
 use Rattle.casefile.specs.declared.Tables.{Tables}
 use Rattle.casefile.specs.declared.Tables.the-variants as tables
 
--- "member count, members, record count, local records, and nothing after"; "excess bytes at the first one"
+-- "member count, members, record count, local records"
 unfoldable pub tablesAt : List ℕ → ℕ → Tables
 tablesAt bytes at =
     thenNumber (numberAt greatest bytes at) (tables.Wrong at) (λ memberCount members.
     thenRun (runBy (membersThen memberCount 0 ended) bytes members) (λ wrong. tables.Wrong wrong) (λ membersEnd.
     thenNumber (numberAt greatest bytes membersEnd) (tables.Wrong membersEnd) (λ recordCount records.
     thenRun (runBy (recordsThen recordCount ended) bytes records) (λ wrong. tables.Wrong wrong) (λ recordsEnd.
-    pick (ltb recordsEnd (length bytes)) (tables.Wrong recordsEnd)
-    (tables.Read
+    tables.Read
     (record {
       members = members;
       «members_length» = membersEnd - members;
@@ -31,13 +30,15 @@ tablesAt bytes at =
       records = records;
       «records_length» = recordsEnd - records;
       «record_count» = recordCount;
-    }))))))
+      end = recordsEnd;
+    })))))
 
 abbrev pub thenTables : {A : Type 0} → Tables → (ℕ → A) → (TablePlaces → A) → A
 thenTables (tables.Read places) wrong following = following places
 thenTables (tables.Wrong place) wrong following = wrong place
 
--- "A case holds, in order: access flags, faulting index, code text, name signature text, .."
+-- "A case holds, in order: access flags, faulting index, code text, name signature text, .., and nothing after."; "excess bytes
+-- at the first one"
 unfoldable pub placesIn : List ℕ → Case
 placesIn bytes =
     thenNumber (numberAt greatest bytes 0) (Wrong 0) (λ flags faultAt.
@@ -45,7 +46,8 @@ placesIn bytes =
     thenText (textAt bytes codeAt) (Wrong codeAt) (λ code codeLength.
     thenText (textAt bytes (code + codeLength)) (Wrong (code + codeLength)) (λ signature signatureLength.
     thenTables (tablesAt bytes (signature + signatureLength)) (λ wrong. Wrong wrong) (λ places.
-    Parts
+    pick (ltb (places .end) (length bytes)) (Wrong (places .end))
+    (Parts
     (record {
       flags = flags;
       fault = fault;
@@ -59,7 +61,7 @@ placesIn bytes =
       records = places .records;
       «records_length» = places .«records_length»;
       «record_count» = places .«record_count»;
-    }))))))
+    })))))))
 
 -- "5: the case exceeds 1,048,576 bytes", tested before 2
 abbrev pub longest : ℕ

@@ -11,7 +11,7 @@ ghost use Rattle.casefile.specs.Whole.{tablesAt, caseOf};
 // The greatest length of a case.
 const LONGEST: usize = 1048576;
 
-// Where the member run and the record run lie in a case, and their counts.
+// Where the member run and the record run lie in a case, their counts, and the place after the last record.
 pub struct TablePlaces {
     pub members: usize,
     pub members_length: usize,
@@ -19,6 +19,7 @@ pub struct TablePlaces {
     pub records: usize,
     pub records_length: usize,
     pub record_count: usize,
+    pub end: usize,
 }
 
 // What reading the two runs answers.
@@ -53,7 +54,7 @@ pub enum Case {
     TooLong,
 }
 
-// Member count, members, record count, local records, and nothing after.
+// Member count, members, record count, local records. What follows them is the caller's to judge.
 fn read_tables(bytes: &[u8], at: usize) -> Tables
     ensures { λ r. ⌜ r ≡ tablesAt (now (bytes .entry)) at ⌝ }
 {
@@ -77,9 +78,6 @@ fn read_tables(bytes: &[u8], at: usize) -> Tables
             return Tables::Wrong(wrong);
         }
     };
-    if records_end < bytes.len() {
-        return Tables::Wrong(records_end);
-    }
     Tables::Read(TablePlaces {
         members,
         members_length: members_end - members,
@@ -87,6 +85,7 @@ fn read_tables(bytes: &[u8], at: usize) -> Tables
         records,
         records_length: records_end - records,
         record_count,
+        end: records_end,
     })
 }
 
@@ -110,21 +109,29 @@ pub fn read_case(bytes: &[u8]) -> Case
     let Text::Place(signature, signature_length) = read_text(bytes, signature_at) else {
         return Case::Wrong(signature_at);
     };
-    match read_tables(bytes, signature + signature_length) {
-        Tables::Read(tables) => Case::Parts(Places {
-            flags,
-            fault,
-            code,
-            code_length,
-            signature,
-            signature_length,
-            members: tables.members,
-            members_length: tables.members_length,
-            member_count: tables.member_count,
-            records: tables.records,
-            records_length: tables.records_length,
-            record_count: tables.record_count,
-        }),
-        Tables::Wrong(wrong) => Case::Wrong(wrong),
+    let runs = read_tables(bytes, signature + signature_length);
+    let tables = match runs {
+        Tables::Read(tables) => tables,
+        Tables::Wrong(wrong) => {
+            return Case::Wrong(wrong);
+        }
+    };
+    let records_end = tables.end;
+    if records_end < bytes.len() {
+        return Case::Wrong(records_end);
     }
+    Case::Parts(Places {
+        flags,
+        fault,
+        code,
+        code_length,
+        signature,
+        signature_length,
+        members: tables.members,
+        members_length: tables.members_length,
+        member_count: tables.member_count,
+        records: tables.records,
+        records_length: tables.records_length,
+        record_count: tables.record_count,
+    })
 }

@@ -3,7 +3,7 @@
 -- Assumes nothing.
 use Prim.Native.Nat.{ℕ, zero, suc, _+_, _≤_, _<_}
 use native.Mathlib.Omega.{arith}
-use mathlib.Core.Path.{_≡_, refl, _∙_, sym, ap, subst}
+use mathlib.Core.Path.{_≡_, refl, _∙_, sym, ap, subst, subst₂}
 use mathlib.Core.Bool.{Bool, true, false}
 use mathlib.Core.List.{List}
 use lib.Dec.{T, ltb}
@@ -17,7 +17,7 @@ use Rattle.number.specs.declared.Number.{Number}
 use Rattle.number.specs.declared.Number.the-variants.{Value, NotNumber}
 use Rattle.items.specs.declared.Text.{Text}
 use Rattle.items.specs.declared.Text.the-variants.{Place, NotText}
-use Rattle.tables.specs.Layout.{Layout, number, text, ended, any, memberThen, membersThen, recordThen, recordsThen, tablesLayout, caseLayout, runBy, thenRun}
+use Rattle.tables.specs.Layout.{Layout, number, sized, mayEnd, ended, any, membersThen, recordsThen, tablesThen, caseLayout, runBy, thenRun}
 use Rattle.tables.specs.Member.{memberAt, thenMember}
 use Rattle.tables.specs.LocalRecord.{recordAt, thenRecord}
 use Rattle.tables.specs.declared.LocalRecord.{LocalRecord}
@@ -28,14 +28,14 @@ use Rattle.tables.specs.declared.Run.{Run}
 use Rattle.tables.specs.declared.Run.the-variants.{End, Wrong}
 use Rattle.tables.proofs.Within.{run-within}
 use Rattle.tables.proofs.Runs.{member-then, record-then}
-use Rattle.casefile.specs.Whole.{tablesAt, placesIn, longest, caseOf}
+use Rattle.casefile.specs.Whole.{tablesAt, thenTables, placesIn, longest, caseOf}
 use Rattle.casefile.specs.declared.Case.{Case}
 use Rattle.casefile.specs.declared.Case.the-variants as answer
 use Rattle.casefile.specs.declared.Tables.{Tables}
 use Rattle.casefile.specs.declared.Tables.the-variants as tables
 use Rattle.cases.specs.Standing.{Stands}
-use Rattle.cases.specs.FirstWrong.{Reached, start, afterNumber, afterText, NothingRight, FirstWrong, FirstWrongDeclared}
-use Rattle.cases.proofs.Items.{number-on, text-on}
+use Rattle.cases.specs.FirstWrong.{Reached, start, afterNumber, afterText, goesOn, endsHere, NothingRight, FirstWrong, FirstWrongDeclared}
+use Rattle.cases.proofs.Items.{number-on, sized-on, may-end-on, may-end-here}
 use Rattle.cases.proofs.Reading.{number-reads, number-stands, text-reads, text-stands}
 
 true-test : (t : Bool) → T t → t ≡ true
@@ -95,20 +95,21 @@ module _ (bytes : List ℕ) (are : AreBytes bytes) where
                 let y : _≡_ {A = ℕ} 0 1 = cc in
                 omega arith;
           }
-  declares (text following) at reached =
-      by-text (textAt bytes at) refl (λ next there. declares following next there)
+  declares (sized following) at reached =
+      by-text (textAt bytes at) refl (λ size next there. declares (following size) next there)
     where
       by-text :
           (t : Text) → textAt bytes at ≡ t →
-          ((after : ℕ) → Reached bytes following after → Declares (runBy following bytes after)) →
-          Declares (thenText t (Wrong at) (λ begin size. runBy following bytes (begin + size)))
+          ((size after : ℕ) → Reached bytes (following size) after → Declares (runBy (following size) bytes after)) →
+          Declares (thenText t (Wrong at) (λ begin size. runBy (following size) bytes (begin + size)))
       by-text (Place begin size) e onward =
           let read = text-stands bytes at begin size are e in
-          onward (begin + size)
-          (subst (λ (n : ℕ). Reached bytes following n) (sym (read .ends)) (afterText _ reached (read .fits) (read .stands)))
+          onward size (begin + size)
+          (subst₂ (λ (k n : ℕ). Reached bytes (following k) n) (read .sized) (sym (read .ends))
+          (afterText _ reached (read .fits) (read .stands)))
       by-text NotText e onward =
           record {
-            due = text following;
+            due = sized following;
             reached = reached;
             wrong =
                 λ t fits stands.
@@ -116,6 +117,14 @@ module _ (bytes : List ℕ) (are : AreBytes bytes) where
                 let y : _≡_ {A = ℕ} 0 1 = cc in
                 omega arith;
           }
+  declares (mayEnd following) at reached =
+      by-test (ltb at (length bytes)) refl (λ there. declares following at there)
+    where
+      by-test :
+          (t : Bool) → ltb at (length bytes) ≡ t → (Reached bytes following at → Declares (runBy following bytes at)) →
+          Declares (pick t (runBy following bytes at) (End at))
+      by-test true e onward = onward (goesOn reached (ltb-true at (length bytes) e))
+      by-test false e onward = endsHere reached (ltb-false at (length bytes) e)
 
   -- from each place that is reached the layout answers what it answers from the start
   along : {layout : Layout} {at : ℕ} → Reached bytes layout at → runBy caseLayout bytes 0 ≡ runBy layout bytes at
@@ -123,7 +132,9 @@ module _ (bytes : List ℕ) (are : AreBytes bytes) where
   along (afterNumber {right = right} {following = following} {at = at} v earlier fits passes stands) =
       along earlier ∙ number-on bytes at right following v fits (true-test (right v) passes) stands
   along (afterText {following = following} {at = at} t earlier fits stands) =
-      along earlier ∙ text-on bytes at following t fits stands
+      along earlier ∙ sized-on bytes at following t fits stands
+  along (goesOn {following = following} {at = at} earlier inside) = along earlier ∙ may-end-on bytes at following inside
+  along (endsHere {following = following} {at = at} earlier past) = along earlier ∙ may-end-here bytes at following past
 
 -- ---- the reader of the whole case is a run of the layout
 
@@ -193,55 +204,49 @@ abbrev pub onRun : List ℕ → Run → Verdict
 onRun bytes (End end) = pick (ltb end (length bytes)) (wrongAt end) allRight
 onRun bytes (Wrong offset) = wrongAt offset
 
-abbrev onTables : Tables → Verdict
-onTables (tables.Read places) = allRight
-onTables (tables.Wrong offset) = wrongAt offset
-
 abbrev pub onCase : Case → Verdict
 onCase (answer.Parts places) = allRight
 onCase (answer.Wrong offset) = wrongAt offset
 onCase answer.TooLong = notRead
 
-module _ (bytes : List ℕ) (at : ℕ) where
-  abbrev TablesRun : Type 0
-  TablesRun = onTables (tablesAt bytes at) ≡ onRun bytes (runBy tablesLayout bytes at)
+-- the two runs with their counts, and what follows them
+module _ (following : Layout) (bytes : List ℕ) (at : ℕ) where
+  abbrev TablesThen : Type 0
+  TablesThen =
+      runBy (tablesThen following) bytes at
+      ≡ thenTables (tablesAt bytes at) (λ wrong. Wrong wrong) (λ places. runBy following bytes (places .end))
 
-  tables-run : TablesRun
-  unfolding tablesAt tablesLayout runBy
-  tables-run = by-count (numberAt greatest bytes at) refl
+  abbrev afterMembers : Layout
+  afterMembers = number any (λ records. recordsThen records following)
+
+  pub tables-then : TablesThen
+  unfolding tablesAt tablesThen runBy
+  tables-then = by-count (numberAt greatest bytes at) refl
     where
-      by-end : (t : Bool) (end : ℕ) (places : Tables) → onTables places ≡ allRight →
-          onTables (pick t (tables.Wrong end) places) ≡ pick t (wrongAt end) allRight
-      by-end true end places e = refl
-      by-end false end places e = e
-
       by-records :
           (count members end recordCount records : ℕ) → numberAt greatest bytes at ≡ Value count members →
           runBy (membersThen count 0 ended) bytes members ≡ End end → numberAt greatest bytes end ≡ Value recordCount records →
-          (r : Run) → runBy (recordsThen recordCount ended) bytes records ≡ r → TablesRun
+          (r : Run) → runBy (recordsThen recordCount ended) bytes records ≡ r → TablesThen
       by-records count members end recordCount records e f g (End last) h =
-          rw (e, members-then count 0 (number any (λ records. recordsThen records ended)) bytes members, f, g, h)
-          (by-end (ltb last (length bytes)) last _ refl)
+          rw (e, members-then count 0 afterMembers bytes members, f, g, records-then recordCount following bytes records, h)
       by-records count members end recordCount records e f g (Wrong offset) h =
-          rw (e, members-then count 0 (number any (λ records. recordsThen records ended)) bytes members, f, g, h)
+          rw (e, members-then count 0 afterMembers bytes members, f, g, records-then recordCount following bytes records, h)
 
       by-record-count :
           (count members end : ℕ) → numberAt greatest bytes at ≡ Value count members →
           runBy (membersThen count 0 ended) bytes members ≡ End end →
-          (n : Number) → numberAt greatest bytes end ≡ n → TablesRun
+          (n : Number) → numberAt greatest bytes end ≡ n → TablesThen
       by-record-count count members end e f (Value recordCount records) g =
           by-records count members end recordCount records e f g (runBy (recordsThen recordCount ended) bytes records) refl
-      by-record-count count members end e f NotNumber g =
-          rw (e, members-then count 0 (number any (λ records. recordsThen records ended)) bytes members, f, g)
+      by-record-count count members end e f NotNumber g = rw (e, members-then count 0 afterMembers bytes members, f, g)
 
       by-members :
           (count members : ℕ) → numberAt greatest bytes at ≡ Value count members →
-          (r : Run) → runBy (membersThen count 0 ended) bytes members ≡ r → TablesRun
+          (r : Run) → runBy (membersThen count 0 ended) bytes members ≡ r → TablesThen
       by-members count members e (End end) f = by-record-count count members end e f (numberAt greatest bytes end) refl
-      by-members count members e (Wrong offset) f =
-          rw (e, members-then count 0 (number any (λ records. recordsThen records ended)) bytes members, f)
+      by-members count members e (Wrong offset) f = rw (e, members-then count 0 afterMembers bytes members, f)
 
-      by-count : (n : Number) → numberAt greatest bytes at ≡ n → TablesRun
+      by-count : (n : Number) → numberAt greatest bytes at ≡ n → TablesThen
       by-count (Value count members) e = by-members count members e (runBy (membersThen count 0 ended) bytes members) refl
       by-count NotNumber e = rw e
 
@@ -253,15 +258,22 @@ module _ (bytes : List ℕ) where
   unfolding placesIn caseLayout runBy
   case-run = by-flags (numberAt greatest bytes 0) refl
     where
+      by-end :
+          (t : Bool) (end : ℕ) (right : Case) → onCase right ≡ allRight →
+          onCase (pick t (answer.Wrong end) right) ≡ pick t (wrongAt end) allRight
+      by-end true end right e = refl
+      by-end false end right e = e
+
       by-tables :
           (flags faultAt fault codeAt code codeLength signature signatureLength : ℕ) →
           numberAt greatest bytes 0 ≡ Value flags faultAt → numberAt greatest bytes faultAt ≡ Value fault codeAt →
           textAt bytes codeAt ≡ Place code codeLength → textAt bytes (code + codeLength) ≡ Place signature signatureLength →
           (t : Tables) → tablesAt bytes (signature + signatureLength) ≡ t → CaseRun
       by-tables flags faultAt fault codeAt code codeLength signature signatureLength e f g h (tables.Read places) i =
-          rw (e, f, g, h, i) (sym (ap onTables i) ∙ tables-run bytes (signature + signatureLength))
+          rw (e, f, g, h, tables-then ended bytes (signature + signatureLength), i)
+          (by-end (ltb (places .end) (length bytes)) (places .end) _ refl)
       by-tables flags faultAt fault codeAt code codeLength signature signatureLength e f g h (tables.Wrong offset) i =
-          rw (e, f, g, h, i) (sym (ap onTables i) ∙ tables-run bytes (signature + signatureLength))
+          rw (e, f, g, h, tables-then ended bytes (signature + signatureLength), i)
 
       by-signature :
           (flags faultAt fault codeAt code codeLength : ℕ) →
@@ -352,11 +364,12 @@ module _ (bytes : List ℕ) where
           onRun bytes (thenNumber n (Wrong at) (λ v next. pick (right v) (runBy (following v) bytes next) (Wrong at))) ≡ wrongAt at
       by-number (Value v next) e = by-rule v next e (right v) refl
       by-number NotNumber e = refl
-  stops are (text following) at nothing = by-text (textAt bytes at) refl
+  stops are (mayEnd following) at nothing = absurd nothing
+  stops are (sized following) at nothing = by-text (textAt bytes at) refl
     where
       by-text :
           (t : Text) → textAt bytes at ≡ t →
-          onRun bytes (thenText t (Wrong at) (λ begin size. runBy following bytes (begin + size))) ≡ wrongAt at
+          onRun bytes (thenText t (Wrong at) (λ begin size. runBy (following size) bytes (begin + size))) ≡ wrongAt at
       by-text (Place begin size) e =
           let read = text-stands bytes at begin size are e in
           absurd (nothing _ (read .fits) (read .stands))

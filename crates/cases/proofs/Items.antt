@@ -8,7 +8,7 @@ use mathlib.Core.Bool.{Bool, true, false}
 use mathlib.Core.List.{List, [], _∷_, _++_}
 use lib.Dec.{ltb, leb}
 use lib.ListN.{length, take, drop, length-append}
-use borrow.Author.Tests.{lt-ltb, le-leb, ltb-true, leb-true}
+use borrow.Author.Tests.{lt-ltb, le-ltb, le-leb, ltb-true, leb-true}
 use Rattle.basics.specs.Bytes.{AreBytes}
 use Rattle.basics.specs.Choice.{pick}
 use Rattle.number.specs.Number.{greatest, numberBytes, numberAt, thenNumber}
@@ -17,7 +17,7 @@ use Rattle.number.specs.declared.Number.{Number}
 use Rattle.number.specs.declared.Number.the-variants.{Value, NotNumber}
 use Rattle.items.specs.declared.Text.{Text}
 use Rattle.items.specs.declared.Text.the-variants.{Place, NotText}
-use Rattle.tables.specs.Layout.{Layout, number, text, ended, any, threeTexts, memberThen, membersThen, recordThen, recordsThen, runBy}
+use Rattle.tables.specs.Layout.{Layout, number, sized, mayEnd, text, ended, any, threeTexts, memberThen, membersThen, recordThen, recordsThen, runBy}
 use Rattle.tables.specs.declared.Run.{Run}
 use Rattle.tables.specs.declared.Run.the-variants.{End, Wrong}
 use Rattle.cases.specs.LaidOut.{Member, textsBytes, memberBytes, membersBytes, RightMember, RightMembers, none, more, Local, recordBytes, recordsBytes, RightLocal, RightLocals}
@@ -34,14 +34,29 @@ pub number-on :
 unfolding runBy
 number-on bytes at right following v fits passes stands = rw (number-reads greatest bytes at v fits stands, passes)
 
+pub sized-on :
+    (bytes : List ℕ) (at : ℕ) (following : ℕ → Layout) (t : List ℕ) → length t ≤ greatest → Stands bytes at (textBytes t) →
+    runBy (sized following) bytes at ≡ runBy (following (length t)) bytes (at + length (textBytes t))
+unfolding runBy textBytes
+sized-on bytes at following t fits stands =
+    let ends : at + length (numberBytes (length t)) + length t ≡ at + length (textBytes t) =
+    omega (arith, length-append (numberBytes (length t)) t) in
+    rw (text-reads bytes at t fits stands) (ap (runBy (following (length t)) bytes) ends)
+
 pub text-on :
     (bytes : List ℕ) (at : ℕ) (following : Layout) (t : List ℕ) → length t ≤ greatest → Stands bytes at (textBytes t) →
     runBy (text following) bytes at ≡ runBy following bytes (at + length (textBytes t))
-unfolding runBy textBytes
-text-on bytes at following t fits stands =
-    let ends : at + length (numberBytes (length t)) + length t ≡ at + length (textBytes t) =
-    omega (arith, length-append (numberBytes (length t)) t) in
-    rw (text-reads bytes at t fits stands) (ap (runBy following bytes) ends)
+text-on bytes at following t fits stands = sized-on bytes at (λ size. following) t fits stands
+
+pub may-end-on :
+    (bytes : List ℕ) (at : ℕ) (following : Layout) → at < length bytes → runBy (mayEnd following) bytes at ≡ runBy following bytes at
+unfolding runBy
+may-end-on bytes at following inside = rw (lt-ltb at (length bytes) inside)
+
+pub may-end-here :
+    (bytes : List ℕ) (at : ℕ) (following : Layout) → length bytes ≤ at → runBy (mayEnd following) bytes at ≡ runBy ended bytes at
+unfolding runBy
+may-end-here bytes at following past = rw (le-ltb at (length bytes) past)
 
 pub texts-on :
     (bytes : List ℕ) (at : ℕ) (following : Layout) (m : Member) → RightMember m → Stands bytes at (textsBytes m) →

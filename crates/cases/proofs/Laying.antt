@@ -13,7 +13,7 @@ use Rattle.basics.specs.Bytes.{AreBytes}
 use Rattle.basics.specs.Choice.{pick}
 use Rattle.number.specs.Number.{greatest, numberBytes, numberAt}
 use Rattle.items.specs.Text.{textBytes, textAt}
-use Rattle.tables.specs.Layout.{Layout, number, text, ended, any, membersThen, recordsThen, tablesLayout, caseLayout, runBy}
+use Rattle.tables.specs.Layout.{Layout, number, text, ended, any, membersThen, recordsThen, tablesThen, caseLayout, runBy}
 use Rattle.tables.specs.declared.Run.{Run}
 use Rattle.tables.specs.declared.Run.the-variants.{End, Wrong}
 use Rattle.casefile.specs.Parts.{Parts, caseBytes, partsOf}
@@ -52,7 +52,7 @@ record-run bytes at count run is stands =
     ∙ records-on bytes at ended (is .locals) (is .right) own
     ∙ ap (λ (r : List ℕ). End (at + length r)) (sym (is .bytes))
 
--- the two runs with their counts, from a place to the end
+-- the two runs with their counts, from a place on
 module _ (bytes : List ℕ) (at : ℕ) (p : Parts) (right : LaidOut p) where
   abbrev membersAt : ℕ
   membersAt = at + length (numberBytes (p .memberCount))
@@ -75,6 +75,7 @@ module _ (bytes : List ℕ) (at : ℕ) (p : Parts) (right : LaidOut p) where
         records = recordsAt;
         «records_length» = recordsAt + length (p .records) - recordsAt;
         «record_count» = p .recordCount;
+        end = recordsAt + length (p .records);
       }
 
   members-stand : Stands bytes at tableBytes → Stands bytes membersAt (p .members ++ (numberBytes (p .recordCount) ++ p .records))
@@ -86,10 +87,9 @@ module _ (bytes : List ℕ) (at : ℕ) (p : Parts) (right : LaidOut p) where
   records-stand : Stands bytes at tableBytes → Stands bytes recordsAt (p .records)
   records-stand stands = second-stands bytes membersEnd (numberBytes (p .recordCount)) (p .records) (count-stands stands)
 
-  tables-read :
-      Stands bytes at tableBytes → length bytes ≤ recordsAt + length (p .records) → tablesAt bytes at ≡ tables.Read tablePlaces
+  tables-read : Stands bytes at tableBytes → tablesAt bytes at ≡ tables.Read tablePlaces
   unfolding tablesAt
-  tables-read stands all =
+  tables-read stands =
       rw (
         number-reads greatest bytes at (p .memberCount) (right .memberCount) (first-stands bytes at (numberBytes (p .memberCount)) _ stands),
         member-run bytes membersAt (p .memberCount) (p .members) (right .members)
@@ -97,7 +97,6 @@ module _ (bytes : List ℕ) (at : ℕ) (p : Parts) (right : LaidOut p) where
         number-reads greatest bytes membersEnd (p .recordCount) (right .recordCount)
             (first-stands bytes membersEnd (numberBytes (p .recordCount)) (p .records) (count-stands stands)),
         record-run bytes recordsAt (p .recordCount) (p .records) (right .records) (records-stand stands),
-        le-ltb (recordsAt + length (p .records)) (length bytes) all,
       )
 
 module _ (p : Parts) (right : LaidOut p) where
@@ -204,7 +203,8 @@ module _ (p : Parts) (right : LaidOut p) where
         text-reads laidBytes signatureAt (p .signature) (right .signature)
             (first-stands laidBytes signatureAt (textBytes (p .signature)) fromTables signature-stands),
         signature-ends,
-        tables-read laidBytes tablesPlace p right tables-stand to-the-end,
+        tables-read laidBytes tablesPlace p right tables-stand,
+        le-ltb (recordsAt laidBytes tablesPlace p right + length (p .records)) (length laidBytes) to-the-end,
       )
 
   -- a part that stands, by a length that is a difference of laidPlaces
@@ -248,7 +248,7 @@ module _ (bytes : List ℕ) (are : AreBytes bytes) where
     is : bytes ≡ caseBytes parts
 
   -- the two runs with their counts, that a run passed
-  record TablesBefore (at end : ℕ) : Type 0 where
+  record TablesBefore (following : Layout) (at end : ℕ) : Type 0 where
     memberCount : ℕ
     members : List ℕ
     recordCount : ℕ
@@ -258,31 +258,40 @@ module _ (bytes : List ℕ) (are : AreBytes bytes) where
     memberRun : MemberRun memberCount members
     recordRun : RecordRun recordCount records
     stands : Stands bytes at (numberBytes memberCount ++ (members ++ (numberBytes recordCount ++ records)))
-    ends : end ≡ at + length (numberBytes memberCount ++ (members ++ (numberBytes recordCount ++ records)))
+    onward :
+        runBy following bytes (at + length (numberBytes memberCount ++ (members ++ (numberBytes recordCount ++ records)))) ≡ End end
 
-  abbrev afterMembers : Layout
-  afterMembers = number any (λ n. recordsThen n ended)
-
-  tables-back : (at end : ℕ) → runBy tablesLayout bytes at ≡ End end → TablesBefore at end
-  unfolding tablesLayout runBy
-  tables-back at end e = of-count (number-back bytes are any (λ n. membersThen n 0 afterMembers) at end e)
+  tables-back :
+      (following : Layout) (at end : ℕ) → runBy (tablesThen following) bytes at ≡ End end → TablesBefore following at end
+  unfolding tablesThen
+  tables-back following at end e = of-count (number-back bytes are any (λ n. membersThen n 0 afterMembers) at end e)
     where
+      afterMembers : Layout
+      afterMembers = number any (λ n. recordsThen n following)
+
       of-records :
           (count : NumberBefore bytes are any (λ n. membersThen n 0 afterMembers) at end)
           (members : MembersBefore bytes are (count .v) 0 afterMembers (at + length (numberBytes (count .v))) end)
           (recordCount :
-          NumberBefore bytes are any (λ n. recordsThen n ended)
+          NumberBefore bytes are any (λ n. recordsThen n following)
           (at + length (numberBytes (count .v)) + length (membersBytes (members .members))) end) →
-          RecordsBefore bytes are (recordCount .v) ended
+          RecordsBefore bytes are (recordCount .v) following
           (at + length (numberBytes (count .v)) + length (membersBytes (members .members)) + length (numberBytes (recordCount .v))) end →
-          TablesBefore at end
+          TablesBefore following at end
       of-records count members recordCount records =
           let membersAt = at + length (numberBytes (count .v)) in
           let memberRun = membersBytes (members .members) in
           let recordRun = recordsBytes (records .locals) in
           let fromCount = numberBytes (recordCount .v) ++ recordRun in
-          let last : membersAt + length memberRun + length (numberBytes (recordCount .v)) + length recordRun ≡ end =
-          ends-at _ end (records .onward) in
+          let ends :
+          membersAt + length memberRun + length (numberBytes (recordCount .v)) + length recordRun
+          ≡ at + length (numberBytes (count .v) ++ (memberRun ++ fromCount)) =
+          omega (
+            arith,
+            length-append (numberBytes (count .v)) (memberRun ++ fromCount),
+            length-append memberRun fromCount,
+            length-append (numberBytes (recordCount .v)) recordRun,
+          ) in
           record {
             memberCount = count .v;
             members = memberRun;
@@ -297,40 +306,30 @@ module _ (bytes : List ℕ) (are : AreBytes bytes) where
                 (both-stand bytes membersAt memberRun fromCount (members .stands)
                 (both-stand bytes (membersAt + length memberRun) (numberBytes (recordCount .v)) recordRun
                 (recordCount .stands) (records .stands)));
-            ends =
-                omega (
-                  arith,
-                  last,
-                  length-append (numberBytes (count .v)) (memberRun ++ fromCount),
-                  length-append memberRun fromCount,
-                  length-append (numberBytes (recordCount .v)) recordRun,
-                );
+            onward = ap (runBy following bytes) (sym ends) ∙ records .onward;
           }
-        where
-          ends-at : (a b : ℕ) → End a ≡ End b → a ≡ b
-          ends-at a b q = cc
 
       of-record-count :
           (count : NumberBefore bytes are any (λ n. membersThen n 0 afterMembers) at end)
           (members : MembersBefore bytes are (count .v) 0 afterMembers (at + length (numberBytes (count .v))) end) →
-          NumberBefore bytes are any (λ n. recordsThen n ended)
+          NumberBefore bytes are any (λ n. recordsThen n following)
           (at + length (numberBytes (count .v)) + length (membersBytes (members .members))) end →
-          TablesBefore at end
+          TablesBefore following at end
       of-record-count count members recordCount =
           of-records count members recordCount
-          (records-back bytes are (recordCount .v) ended
+          (records-back bytes are (recordCount .v) following
           (at + length (numberBytes (count .v)) + length (membersBytes (members .members)) + length (numberBytes (recordCount .v))) end
           (recordCount .onward))
 
       of-members :
           (count : NumberBefore bytes are any (λ n. membersThen n 0 afterMembers) at end) →
-          MembersBefore bytes are (count .v) 0 afterMembers (at + length (numberBytes (count .v))) end → TablesBefore at end
+          MembersBefore bytes are (count .v) 0 afterMembers (at + length (numberBytes (count .v))) end → TablesBefore following at end
       of-members count members =
           of-record-count count members
-          (number-back bytes are any (λ n. recordsThen n ended)
+          (number-back bytes are any (λ n. recordsThen n following)
           (at + length (numberBytes (count .v)) + length (membersBytes (members .members))) end (members .onward))
 
-      of-count : NumberBefore bytes are any (λ n. membersThen n 0 afterMembers) at end → TablesBefore at end
+      of-count : NumberBefore bytes are any (λ n. membersThen n 0 afterMembers) at end → TablesBefore following at end
       of-count count =
           of-members count (members-back bytes are (count .v) 0 afterMembers (at + length (numberBytes (count .v))) end (count .onward))
 
@@ -341,10 +340,10 @@ module _ (bytes : List ℕ) (are : AreBytes bytes) where
       Stands bytes (0 + length (numberBytes flags)) (numberBytes fault) →
       Stands bytes (0 + length (numberBytes flags) + length (numberBytes fault)) (textBytes code) →
       Stands bytes (0 + length (numberBytes flags) + length (numberBytes fault) + length (textBytes code)) (textBytes signature) →
-      TablesBefore
+      TablesBefore ended
       (0 + length (numberBytes flags) + length (numberBytes fault) + length (textBytes code) + length (textBytes signature)) end →
       length bytes ≤ end → length bytes ≤ longest → Laid
-  unfolding caseBytes
+  unfolding caseBytes runBy
   assembled end flags fault code signature flagsFit faultFits codeFits signatureFits a b c d tables whole short =
       let p : Parts =
       record {
@@ -370,7 +369,7 @@ module _ (bytes : List ℕ) (are : AreBytes bytes) where
       let all : length (caseBytes p) ≡ end =
       omega (
         arith,
-        tables .ends,
+        ends-at _ end (tables .onward),
         length-append (numberBytes flags) fromFault,
         length-append (numberBytes fault) fromCode,
         length-append (textBytes code) fromSignature,
@@ -393,35 +392,38 @@ module _ (bytes : List ℕ) (are : AreBytes bytes) where
             };
         is = same;
       }
+    where
+      ends-at : (a b : ℕ) → End a ≡ End b → a ≡ b
+      ends-at a b q = cc
 
   -- a run of the whole layout that leaves no byte
   laid-by-run : (end : ℕ) → runBy caseLayout bytes 0 ≡ End end → length bytes ≤ end → length bytes ≤ longest → Laid
   unfolding caseLayout
-  laid-by-run end e whole short = of-flags (number-back bytes are any (λ a. number any (λ b. text (text tablesLayout))) 0 end e)
+  laid-by-run end e whole short = of-flags (number-back bytes are any (λ a. number any (λ b. text (text (tablesThen ended)))) 0 end e)
     where
       of-signature :
-          (flags : NumberBefore bytes are any (λ a. number any (λ b. text (text tablesLayout))) 0 end)
-          (fault : NumberBefore bytes are any (λ b. text (text tablesLayout)) (0 + length (numberBytes (flags .v))) end)
-          (code : TextBefore bytes are (text tablesLayout) (0 + length (numberBytes (flags .v)) + length (numberBytes (fault .v))) end) →
-          TextBefore bytes are tablesLayout
+          (flags : NumberBefore bytes are any (λ a. number any (λ b. text (text (tablesThen ended)))) 0 end)
+          (fault : NumberBefore bytes are any (λ b. text (text (tablesThen ended))) (0 + length (numberBytes (flags .v))) end)
+          (code : TextBefore bytes are (text (tablesThen ended)) (0 + length (numberBytes (flags .v)) + length (numberBytes (fault .v))) end) →
+          TextBefore bytes are (tablesThen ended)
           (0 + length (numberBytes (flags .v)) + length (numberBytes (fault .v)) + length (textBytes (code .t))) end → Laid
       of-signature flags fault code signature =
           assembled end (flags .v) (fault .v) (code .t) (signature .t) (flags .fits) (fault .fits) (code .fits) (signature .fits)
-          (flags .stands) (fault .stands) (code .stands) (signature .stands) (tables-back _ end (signature .onward)) whole short
+          (flags .stands) (fault .stands) (code .stands) (signature .stands) (tables-back ended _ end (signature .onward)) whole short
 
       of-code :
-          (flags : NumberBefore bytes are any (λ a. number any (λ b. text (text tablesLayout))) 0 end)
-          (fault : NumberBefore bytes are any (λ b. text (text tablesLayout)) (0 + length (numberBytes (flags .v))) end) →
-          TextBefore bytes are (text tablesLayout) (0 + length (numberBytes (flags .v)) + length (numberBytes (fault .v))) end → Laid
-      of-code flags fault code = of-signature flags fault code (text-back bytes are tablesLayout _ end (code .onward))
+          (flags : NumberBefore bytes are any (λ a. number any (λ b. text (text (tablesThen ended)))) 0 end)
+          (fault : NumberBefore bytes are any (λ b. text (text (tablesThen ended))) (0 + length (numberBytes (flags .v))) end) →
+          TextBefore bytes are (text (tablesThen ended)) (0 + length (numberBytes (flags .v)) + length (numberBytes (fault .v))) end → Laid
+      of-code flags fault code = of-signature flags fault code (text-back bytes are (tablesThen ended) _ end (code .onward))
 
       of-fault :
-          (flags : NumberBefore bytes are any (λ a. number any (λ b. text (text tablesLayout))) 0 end) →
-          NumberBefore bytes are any (λ b. text (text tablesLayout)) (0 + length (numberBytes (flags .v))) end → Laid
-      of-fault flags fault = of-code flags fault (text-back bytes are (text tablesLayout) _ end (fault .onward))
+          (flags : NumberBefore bytes are any (λ a. number any (λ b. text (text (tablesThen ended)))) 0 end) →
+          NumberBefore bytes are any (λ b. text (text (tablesThen ended))) (0 + length (numberBytes (flags .v))) end → Laid
+      of-fault flags fault = of-code flags fault (text-back bytes are (text (tablesThen ended)) _ end (fault .onward))
 
-      of-flags : NumberBefore bytes are any (λ a. number any (λ b. text (text tablesLayout))) 0 end → Laid
-      of-flags flags = of-fault flags (number-back bytes are any (λ b. text (text tablesLayout)) _ end (flags .onward))
+      of-flags : NumberBefore bytes are any (λ a. number any (λ b. text (text (tablesThen ended)))) 0 end → Laid
+      of-flags flags = of-fault flags (number-back bytes are any (λ b. text (text (tablesThen ended))) _ end (flags .onward))
 
   laid : (r : Run) → runBy caseLayout bytes 0 ≡ r → onRun bytes r ≡ allRight → length bytes ≤ longest → Laid
   laid (End end) e right short = by-test (ltb end (length bytes)) refl right

@@ -15,7 +15,7 @@ use borrow.Author.Tests.{ltb-true, ltb-false, leb-true, leb-false}
 use Rattle.basics.specs.Bytes.{byteAt, AreBytes}
 use Rattle.number.specs.Number.{greatest, numberBytes}
 use Rattle.items.specs.Text.{textBytes}
-use Rattle.tables.specs.Layout.{Layout, number, text, ended, any}
+use Rattle.tables.specs.Layout.{Layout, number, sized, mayEnd, ended, any}
 use Rattle.cases.specs.FirstWrong.{NothingRight, FirstWrong}
 use Rattle.cases.specs.Item.{Groups, last, before}
 use Rattle.cases.specs.Reasons.{WrongNumber, cut, long, large, refused, WrongText, size, short, Reason, WrongForAReason}
@@ -121,11 +121,12 @@ reason bytes are (number right following) at nothing =
     (λ (n : RightNumber right bytes at). absurd (nothing (n .v) (n .fits) (n .passes) (n .stands)))
     (λ (w : WrongNumber right bytes at). w)
     (right-or-wrong right bytes at are)
-reason bytes are (text following) at nothing =
+reason bytes are (sized following) at nothing =
     ⊎-elim
     (λ (n : RightNumber any bytes at). too-short bytes at (n .v) (n .fits) (n .stands) nothing)
     (λ (w : WrongNumber any bytes at). size w)
     (right-or-wrong any bytes at are)
+reason bytes are (mayEnd following) at nothing = nothing
 reason bytes are ended at excess = excess
 
 pub wrong-for-a-reason : WrongForAReason

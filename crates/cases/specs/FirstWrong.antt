@@ -11,7 +11,7 @@ use lib.ListN.{length}
 use Rattle.basics.specs.Bytes.{AreBytes}
 use Rattle.number.specs.Number.{greatest, numberBytes}
 use Rattle.items.specs.Text.{textBytes}
-use Rattle.tables.specs.Layout.{Layout, number, text, ended, caseLayout}
+use Rattle.tables.specs.Layout.{Layout, number, sized, mayEnd, ended, caseLayout}
 use Rattle.casefile.specs.Whole.{longest, caseOf}
 use Rattle.casefile.specs.declared.Case.the-variants.{Wrong, TooLong}
 use Rattle.cases.specs.Standing.{Stands}
@@ -23,15 +23,19 @@ pub data Reached (bytes : List ℕ) : Layout → ℕ → Type 0 where
       {right : ℕ → Bool} {following : ℕ → Layout} {at : ℕ} (v : ℕ) → Reached bytes (number right following) at →
       v ≤ greatest → T (right v) → Stands bytes at (numberBytes v) → Reached bytes (following v) (at + length (numberBytes v))
   afterText :
-      {following : Layout} {at : ℕ} (t : List ℕ) → Reached bytes (text following) at →
-      length t ≤ greatest → Stands bytes at (textBytes t) → Reached bytes following (at + length (textBytes t))
+      {following : ℕ → Layout} {at : ℕ} (t : List ℕ) → Reached bytes (sized following) at →
+      length t ≤ greatest → Stands bytes at (textBytes t) → Reached bytes (following (length t)) (at + length (textBytes t))
+  goesOn : {following : Layout} {at : ℕ} → Reached bytes (mayEnd following) at → at < length bytes → Reached bytes following at
+  endsHere : {following : Layout} {at : ℕ} → Reached bytes (mayEnd following) at → length bytes ≤ at → Reached bytes ended at
 
 -- what is due at a place does not stand there: no number that passes its test, or no text, begins at the place, be it cut by
--- the end or not of its own form; or nothing is due, and there is a byte in excess
+-- the end or not of its own form; or nothing is due, and there is a byte in excess. Where the bytes may end nothing is wrong yet:
+-- they end, or what follows is due at the same place.
 abbrev pub NothingRight : List ℕ → Layout → ℕ → Type 0
 NothingRight bytes (number right following) at =
     (v : ℕ) → v ≤ greatest → T (right v) → Stands bytes at (numberBytes v) → ⊥
-NothingRight bytes (text following) at = (t : List ℕ) → length t ≤ greatest → Stands bytes at (textBytes t) → ⊥
+NothingRight bytes (sized following) at = (t : List ℕ) → length t ≤ greatest → Stands bytes at (textBytes t) → ⊥
+NothingRight bytes (mayEnd following) at = ⊥
 NothingRight bytes ended at = at < length bytes
 
 -- the first wrong item of a case has this offset

@@ -8,7 +8,7 @@ use mathlib.Core.List.{List}
 use lib.ListN.{length}
 use Rattle.basics.specs.Bytes.{byteAt, AreBytes}
 use Rattle.number.specs.Number.{greatest, numberBytes}
-use Rattle.tables.specs.Layout.{Layout, number, text, ended, any}
+use Rattle.tables.specs.Layout.{Layout, number, sized, mayEnd, ended, any}
 use Rattle.cases.specs.FirstWrong.{FirstWrong}
 use Rattle.cases.specs.Item.{Groups}
 use Rattle.cases.specs.Standing.{Stands}
@@ -32,7 +32,8 @@ pub data WrongText (bytes : List ℕ) (at : ℕ) : Type 0 where
 -- what is wrong with what is due at a place
 abbrev pub Reason : List ℕ → Layout → ℕ → Type 0
 Reason bytes (number right following) at = WrongNumber right bytes at
-Reason bytes (text following) at = WrongText bytes at
+Reason bytes (sized following) at = WrongText bytes at
+Reason bytes (mayEnd following) at = ⊥
 Reason bytes ended at = at < length bytes
 
 -- ---- the statement

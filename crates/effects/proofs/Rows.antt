@@ -2,21 +2,21 @@
 -- The same test serves any other table of rows.
 -- Assumes nothing.
 use Prim.Native.Nat.{ℕ, _<_}
+use native.Mathlib.Omega.{arith}
 use mathlib.Core.Path.{_≡_, refl, sym, ap, subst}
 use mathlib.Core.Bool.{Bool, true, false}
 use mathlib.Core.Logic.{⊎-elim}
 use mathlib.Core.List.{List, [], _∷_, List·Memᴰ, List·Memᴰ·not-nil, List·Memᴰ·cases-cons}
 use lib.Dec.{T, eqb, ltb, eqb→eq, ltb→lt}
-use Rattle.basics.specs.Bytes.{byteAt}
 use Rattle.basics.specs.Choice.{both, alike, between}
 use Rattle.basics.proofs.Every.{both-first, both-second, alike-is, every, every-at}
 use Rattle.jvms.specs.Extent.{takes, extentBy, extentAt}
 use Rattle.jvms.specs.Format.{Format, tableswitch, lookupswitch, wide, reserved, formatOf}
 use Rattle.jvms.specs.Format.{fixed as fixedFormat}
-use Rattle.jvms.specs.Stack.{objectref, reference, Form, _⇒_, Local, indexed, numbered, does, entryOf}
-use Rattle.fixed.specs.Fixed.{fixedBy, fixedLength}
+use Rattle.jvms.specs.Stack.{objectref, reference, Form, _⇒_, Local, indexed, numbered, does, entryOf, keyAt, keyCount}
+use Rattle.fixed.specs.Fixed.{fixedBy, fixedLength, sizeAt}
 use Rattle.effects.specs.Agreement.{isModelled, hasEffect, within, FormAgrees, formsOf, hasForm, localOf, Details, EffectAgrees}
-use Rattle.effects.specs.Agreement.{Agreeing, RowsAgree, documented, ModelsDocumented}
+use Rattle.effects.specs.Agreement.{Agreeing, RowsAgree, Sized, RowsSized, documented, ModelsDocumented}
 use Rattle.effects.specs.Rows.{Row, unmodelled, opaque, aload, aloadOf, carries, keeps, gets, calls, rowOf}
 use Rattle.effects.proofs.Forms.{formFits, form-agrees}
 
@@ -126,11 +126,12 @@ fixed-extent lookupswitch t code pc = absurd t
 fixed-extent wide t code pc = absurd t
 fixed-extent reserved t code pc = absurd t
 
-opcode-extent :
-    (op : ℕ) → T (isFixed (formatOf op)) →
-    (code : List ℕ) (pc : ℕ) → byteAt code pc ≡ op → extentAt code pc ≡ takes (fixedLength op)
-unfolding extentAt fixedLength
-opcode-extent op t code pc e = rw e (fixed-extent (formatOf op) t code pc)
+fixed-some : (f : Format) → T (isFixed f) → 0 < fixedBy f
+fixed-some (fixedFormat os) t = omega arith
+fixed-some tableswitch t = absurd t
+fixed-some lookupswitch t = absurd t
+fixed-some wide t = absurd t
+fixed-some reserved t = absurd t
 
 -- ---- the test
 
@@ -152,31 +153,52 @@ sizeTest row op = whereAsked (isModelled row) (isFixed (formatOf op))
 abbrev rowFits : Row → ℕ → Bool
 rowFits row op = both (effectTest row op) (both (keepsFits row op) (sizeTest row op))
 
--- a table that passes it agrees with JVMS
-pub passed-agrees : (rows : ℕ → Row) → T (every (λ op. rowFits (rows op) op) 256) → Agreeing rows
-passed-agrees rows passed =
-    record {
-      effect = λ op below some.
-          effect-agrees (rows op) op
-          (asked (hasEffect (rows op)) (effectFits (rows op) op) some (both-first (effectTest (rows op) op) _ (at op below)));
-      kept = λ op below e.
-          checkcast-is op
-          (eqb→eq op 192 (subst (λ (r : Row). T (keepsFits r op)) e (both-first (keepsFits (rows op) op) _ (later op below))));
-      sized = λ op below some.
-          opcode-extent op
-          (asked (isModelled (rows op)) (isFixed (formatOf op)) some (both-second (keepsFits (rows op) op) _ (later op below)));
-    }
-  where
-    at : (op : ℕ) → op < 256 → T (rowFits (rows op) op)
-    at op below = every-at (λ k. rowFits (rows k) k) 256 passed op below
+-- a table that passes it agrees with JVMS, and its modelled instructions have a byte
+module _ (rows : ℕ → Row) (passed : T (every (λ key. rowFits (rows key) key) keyCount)) where
+  at : (key : ℕ) → key < keyCount → T (rowFits (rows key) key)
+  at key below = every-at (λ k. rowFits (rows k) k) keyCount passed key below
 
-    later : (op : ℕ) → op < 256 → T (both (keepsFits (rows op) op) (sizeTest (rows op) op))
-    later op below = both-second (effectTest (rows op) op) _ (at op below)
+  later : (key : ℕ) → key < keyCount → T (both (keepsFits (rows key) key) (sizeTest (rows key) key))
+  later key below = both-second (effectTest (rows key) key) _ (at key below)
+
+  is-fixed : (key : ℕ) → key < keyCount → T (isModelled (rows key)) → T (isFixed (formatOf key))
+  is-fixed key below some =
+      asked (isModelled (rows key)) (isFixed (formatOf key)) some (both-second (keepsFits (rows key) key) _ (later key below))
+
+  extent :
+      (code : List ℕ) (pc : ℕ) → keyAt code pc < keyCount → T (isModelled (rows (keyAt code pc))) →
+      extentAt code pc ≡ takes (sizeAt code pc)
+  unfolding extentAt fixedLength
+  extent code pc below some = fixed-extent (formatOf (keyAt code pc)) (is-fixed (keyAt code pc) below some) code pc
+
+  pub passed-agrees : Agreeing rows
+  passed-agrees =
+      record {
+        effect = λ key below some.
+            effect-agrees (rows key) key
+            (asked (hasEffect (rows key)) (effectFits (rows key) key) some
+            (both-first (effectTest (rows key) key) _ (at key below)));
+        kept = λ key below e.
+            checkcast-is key
+            (eqb→eq key 192
+            (subst (λ (r : Row). T (keepsFits r key)) e (both-first (keepsFits (rows key) key) _ (later key below))));
+        sized = extent;
+      }
+
+  pub passed-sized : Sized rows
+  unfolding fixedLength
+  passed-sized key below some = fixed-some (formatOf key) (is-fixed key below some)
 
 -- document 01's passes
-pub rows-agree : RowsAgree
+document-rows-fit : T (every (λ key. rowFits (rowOf key) key) keyCount)
 unfolding rowOf entryOf formatOf
-rows-agree = passed-agrees rowOf tt
+document-rows-fit = tt
+
+pub rows-agree : RowsAgree
+rows-agree = passed-agrees rowOf document-rows-fit
+
+pub rows-sized : RowsSized
+rows-sized = passed-sized rowOf document-rows-fit
 
 -- document 01 models the opcodes that it lists, and no other
 pub models-documented : ModelsDocumented

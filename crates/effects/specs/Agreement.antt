@@ -20,13 +20,12 @@ use mathlib.Core.Bool.{Bool, true, false}
 use mathlib.Core.List.{List, [], _∷_, map, List·Memᴰ}
 use lib.Dec.{T, leb}
 use lib.ListN.{length, getD}
-use Rattle.basics.specs.Bytes.{byteAt}
 use Rattle.basics.specs.Choice.{pick, both, oneOf, between}
 use Rattle.jvms.specs.Extent.{takes, extentAt}
 use Rattle.jvms.specs.Machine.{isReference, run, results}
 use Rattle.jvms.specs.Stack.{objectref, Operand, reference, Form, _⇒_, Local, indexed, numbered, Entry, unlisted, does, eitherOf, loads, stores, increments, throws}
-use Rattle.jvms.specs.Stack.{Cited, slotsOf, slotsIn, nameOf, entryOf, operandsOf}
-use Rattle.fixed.specs.Fixed.{fixedLength}
+use Rattle.jvms.specs.Stack.{Cited, slotsOf, slotsIn, nameOf, entryOf, keyAt, keyCount, operandsOf}
+use Rattle.fixed.specs.Fixed.{fixedLength, sizeAt}
 use Rattle.effects.specs.Depth.{Rule, none, fixed, reads, writes, invokes, ruleOf}
 use Rattle.effects.specs.Rows.{Row, unmodelled, opaque, aload, aloadOf, carries, keeps, gets, calls, rowOf}
 
@@ -146,18 +145,26 @@ pub record EffectAgrees (op : ℕ) (row : Row) : Type 1 where
   pub details : Details row op
 
 pub record Agreeing (rows : ℕ → Row) : Type 1 where
-  -- every modelled opcode but `checkcast`
-  pub effect : (op : ℕ) → op < 256 → T (hasEffect (rows op)) → EffectAgrees op (rows op)
+  -- every modelled key but that of `checkcast`
+  pub effect : (key : ℕ) → key < keyCount → T (hasEffect (rows key)) → EffectAgrees key (rows key)
   -- `checkcast`: JVMS takes its objectref and gives it back
-  pub kept : (op : ℕ) → op < 256 → rows op ≡ keeps → entryOf op ≡ does (reference objectref ∷ [] ⇒ reference objectref ∷ [])
-  -- its length is that of its opcode, by JVMS as by document 01
+  pub kept :
+      (key : ℕ) → key < keyCount → rows key ≡ keeps → entryOf key ≡ does (reference objectref ∷ [] ⇒ reference objectref ∷ [])
+  -- the length of a modelled instruction is that of its key, by JVMS as by document 01
   pub sized :
-      (op : ℕ) → op < 256 → T (isModelled (rows op)) →
-      (code : List ℕ) (pc : ℕ) → byteAt code pc ≡ op → extentAt code pc ≡ takes (fixedLength op)
+      (code : List ℕ) (pc : ℕ) → keyAt code pc < keyCount → T (isModelled (rows (keyAt code pc))) →
+      extentAt code pc ≡ takes (sizeAt code pc)
 
 -- document 01's
 abbrev pub RowsAgree : Type 1
 RowsAgree = Agreeing rowOf
+
+-- every modelled instruction has a byte, so a walk that goes on comes nearer to the fault
+abbrev pub Sized : (ℕ → Row) → Type 0
+Sized rows = (key : ℕ) → key < keyCount → T (isModelled (rows key)) → 0 < fixedLength key
+
+abbrev pub RowsSized : Type 0
+RowsSized = Sized rowOf
 
 -- "0 to 78 (constants, loads, array loads, stores to locals), `pop`, `pop2`, `dup`, `dup2`, `swap`, `iinc`, `checkcast`,
 -- `instanceof`, `new`, `newarray`, `anewarray`, `arraylength`, `getstatic`, `getfield`, and the four invokes 182 to 185. All

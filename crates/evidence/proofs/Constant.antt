@@ -37,13 +37,13 @@ use Rattle.message.specs.Message.{causeText, messageText}
 use Rattle.answer.specs.Answer.{numbered}
 use Rattle.locals.specs.Name.{isInstance}
 use Rattle.report.specs.Report.{messageOf, saidOf, reportOf, reportedIn}
-use Rattle.trace.specs.Trace.{slotFrom, traced}
+use Rattle.trace.specs.Trace.{slotFrom}
 use Rattle.answer.specs.declared.Report.the-variants.{Message, Broken}
 use Rattle.evidence.specs.Constant.{reading, throwing, readingNull, blank, SmallCases, Lent, Always, Program, Meets, numberOf, NoConstant}
 
 pub small-cases : SmallCases
 unfolding reportOf reportedIn caseOf placesIn tablesAt textAt numberAt numberFrom runBy membersThen recordsThen partsOf
-    saidOf decoded depthOf ruleOf actionOf traced blockLeader instructions scanFrom scanCount leadersOf leadersAt branchOf
+    saidOf decoded depthOf ruleOf actionOf blockLeader instructions scanFrom scanCount leadersOf leadersAt branchOf
     answered greatest upTo lengthOf within bytesOf formatOf blockWalk completed completedFrom walk walkFrom step
     rowOf fixedLength slotFrom messageOf messageText actionText causeText localName recordsIn firstMatch
     signatureParameter firstFrom firstIn numberedName decimal digits isInstance over

@@ -10,8 +10,6 @@ use lib.Dec.{ltb}
 use lib.ListN.{length, getD}
 use borrow.Author.Tests.{ltb-true, lt-ltb}
 use Rattle.basics.specs.Choice.{pick}
-use Rattle.bytecode.specs.Length.{lengthOf}
-use Rattle.leader.specs.Scan.{blockLeader}
 use Rattle.leader.specs.declared.Scan.{Scan}
 use Rattle.leader.specs.declared.Scan.the-variants.{Leader, Unmeasured}
 use Rattle.casefile.specs.Parts.{Parts}
@@ -27,8 +25,8 @@ use Rattle.fault.specs.declared.Fault.the-variants.{Failed, Nothing}
 use Rattle.action.specs.Action.{actionText}
 use Rattle.message.specs.Message.{causeText, messageText}
 use Rattle.answer.specs.Answer.{kindOf, Said, said}
-use Rattle.report.specs.Report.{messageOf, saidBy, saidAt, saidOf}
-use Rattle.trace.specs.Trace.{slotFrom, traceOf, tracedBy, traced}
+use Rattle.report.specs.Report.{scanOf, tracedIn, messageOf, saidBy, saidAt, saidOf}
+use Rattle.trace.specs.Trace.{slotFrom, traceOf, tracedBy}
 use Rattle.trace.specs.declared.Trace.{Trace}
 use Rattle.trace.specs.declared.Trace.the-variants.{NoRoom, Traced}
 use Rattle.evidence.specs.Kind.{Caused, KindTwo, ActionAlone, OneOrTwo}
@@ -41,7 +39,7 @@ module _ (p : Parts) (room : ℕ) (message : List ℕ) (scan block : ℕ) where
 
   module _ (action : Action) (depth : ℕ)
       (decodes : decoded (p .code) (p .members) (p .memberCount) (p .fault) ≡ Failed action depth) where
-    module _ (leader scanned : ℕ) (leads : blockLeader lengthOf [] (p .code) (p .fault) ≡ Leader leader scanned) where
+    module _ (leader scanned : ℕ) (leads : scanOf p ≡ Leader leader scanned) where
       module _ (slots : List ℕ) (count : ℕ)
           (walks : blockWalk (p .code) (p .members) (p .memberCount) leader (p .fault) room ≡ fits (done slots count)) where
         abbrev found : Slot
@@ -82,11 +80,11 @@ module _ (p : Parts) (room : ℕ) (message : List ℕ) (scan block : ℕ) where
           Two (saidBy p action (traceOf scanned depth walked)) → Caused p room message scan block
       unfolding slotFrom
       by-walk (lacks index) e told = let z : _≡_ {A = ℕ} 0 1 = cc in absurd (omega arith)
-      by-walk (fits (failed count reason)) e told = let z : _≡_ {A = ℕ} 1 2 = cc in absurd (omega arith)
+      by-walk (fits (failed count index reason)) e told = let z : _≡_ {A = ℕ} 1 2 = cc in absurd (omega arith)
       by-walk (fits (done slots count)) e told = by-height slots count e (ltb depth (length slots)) refl told
 
     by-scan :
-        (x : Scan) → blockLeader lengthOf [] (p .code) (p .fault) ≡ x →
+        (x : Scan) → scanOf p ≡ x →
         Two (saidBy p action (tracedBy (p .code) (p .members) (p .memberCount) (p .fault) depth room x)) →
         Caused p room message scan block
     by-scan (Leader leader scanned) e told =
@@ -96,9 +94,8 @@ module _ (p : Parts) (room : ℕ) (message : List ℕ) (scan block : ℕ) where
   by-fault :
       (fault : Fault) → decoded (p .code) (p .members) (p .memberCount) (p .fault) ≡ fault → Two (saidAt p room fault) →
       Caused p room message scan block
-  unfolding traced
   by-fault Nothing e told = let z : _≡_ {A = ℕ} 0 1 = cc in absurd (omega arith)
-  by-fault (Failed action depth) e told = by-scan action depth e (blockLeader lengthOf [] (p .code) (p .fault)) refl told
+  by-fault (Failed action depth) e told = by-scan action depth e (scanOf p) refl told
 
   has-cause : Two (saidOf p room) → Caused p room message scan block
   unfolding saidOf
@@ -107,7 +104,7 @@ module _ (p : Parts) (room : ℕ) (message : List ℕ) (scan block : ℕ) where
   -- ---- a cause makes kind 2
 
   is-two : Caused p room message scan block → Two (saidOf p room)
-  unfolding saidOf traced slotFrom
+  unfolding saidOf slotFrom
   is-two c =
       rw (c .decodes, c .leads, c .walks, lt-ltb (c .depth) (length (c .slots)) (omega (arith, c .high)), c .slot)
       (ap (λ (text : List ℕ). said text 2 scan block) (sym (c .words)))
@@ -145,7 +142,7 @@ module _ (p : Parts) (room : ℕ) (message : List ℕ) (kind scan block : ℕ) w
       saidAt p room fault ≡ said message kind scan block → Kinds
   by-decoding Nothing e told = let z : _≡_ {A = ℕ} 0 1 = cc in absurd (omega arith)
   by-decoding (Failed action depth) e told =
-      by-trace action depth e (traced (p .code) (p .members) (p .memberCount) (p .fault) depth room) told
+      by-trace action depth e (tracedIn p depth room) told
 
 pub one-or-two : OneOrTwo
 unfolding saidOf

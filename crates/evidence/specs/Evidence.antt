@@ -12,9 +12,7 @@ use Rattle.basics.specs.Bytes.{AreBytes}
 use Rattle.basics.specs.Member.{_∈_}
 use Rattle.jvms.specs.Branch.{landingsAt}
 use Rattle.jvms.specs.Machine.{Pool, State, target}
-use Rattle.bytecode.specs.Length.{lengthOf}
 use Rattle.bytecode.specs.Rule.{document-rule}
-use Rattle.leader.specs.Scan.{blockLeader}
 use Rattle.leader.specs.declared.Scan.the-variants.{Leader}
 use Rattle.leaders.specs.Leader.{Reached}
 use Rattle.casefile.specs.Parts.{Parts, partsOf}
@@ -30,7 +28,7 @@ use Rattle.locals.specs.Name.{localName}
 use Rattle.action.specs.Action.{actionText}
 use Rattle.answer.specs.Answer.{said}
 use Rattle.locals.specs.Name.{isInstance}
-use Rattle.report.specs.Report.{saidOf, reportOf, reportedIn}
+use Rattle.report.specs.Report.{scanOf, saidOf, reportOf, reportedIn}
 use Rattle.answer.specs.declared.Report.the-variants.{Message}
 use Rattle.truth.specs.Condition.{InBlock, Described}
 use Rattle.truth.specs.Translation.{since, HeldWhen}
@@ -41,7 +39,7 @@ use Rattle.truth.specs.Translation.{since, HeldWhen}
 -- from the pool's trees
 abbrev pub WellDescribed : Parts → Pool → Type 0
 WellDescribed p pool =
-    (leader scan pc : ℕ) → blockLeader lengthOf [] (p .code) (p .fault) ≡ Leader leader scan → InBlock (p .code) leader pc →
+    (leader scan pc : ℕ) → scanOf p ≡ Leader leader scan → InBlock (p .code) leader pc →
     pc ≤ p .fault → Described (lookupIn (p .members) (p .memberCount)) pool (p .code) pc
 
 -- ---- what is shown
@@ -69,7 +67,7 @@ pub record Evidence (p : Parts) (pool : Pool) (message : List ℕ) (scan block :
       ++ (ascii " because \"" ++ localName (p .records) (p .recordCount) (p .signature) (isInstance (p .flags)) local load
       ++ ascii "\" is null")
   -- the block begins at its leader, and nothing that the scan knows lands between that and the fault
-  pub leads : blockLeader lengthOf [] (p .code) (p .fault) ≡ Leader leader scan
+  pub leads : scanOf p ≡ Leader leader scan
   pub nothingLands :
       (pc x : ℕ) → Reached document-rule (p .code) pc → x ∈ landingsAt (p .code) pc → leader < x → x ≤ p .fault → ⊥
   -- "from any entering stack, locals and opaque results", over any values

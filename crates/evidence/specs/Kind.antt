@@ -2,11 +2,9 @@
 -- Assumes nothing.
 use Prim.Native.Nat.{ℕ, _-_, _<_}
 use mathlib.Core.Path.{_≡_}
-use mathlib.Core.List.{List, []}
+use mathlib.Core.List.{List}
 use mathlib.Core.Logic.{_⊎_}
 use lib.ListN.{length, getD}
-use Rattle.bytecode.specs.Length.{lengthOf}
-use Rattle.leader.specs.Scan.{blockLeader}
 use Rattle.leader.specs.declared.Scan.the-variants.{Leader}
 use Rattle.casefile.specs.Parts.{Parts}
 use Rattle.cell.specs.Cell.{unpacked}
@@ -18,7 +16,7 @@ use Rattle.fault.specs.declared.Action.{Action}
 use Rattle.fault.specs.declared.Fault.the-variants.{Failed}
 use Rattle.action.specs.Action.{actionText}
 use Rattle.answer.specs.Answer.{said}
-use Rattle.report.specs.Report.{messageOf, saidOf}
+use Rattle.report.specs.Report.{scanOf, messageOf, saidOf}
 
 -- "A cause is given exactly when the walk succeeds, its height exceeds the depth, and the slot at that depth from the top is
 -- a load".
@@ -31,7 +29,7 @@ pub record Caused (p : Parts) (room : ℕ) (message : List ℕ) (scan block : �
   pub local : ℕ
   -- the fault's action, and how deep the reference lies
   pub decodes : decoded (p .code) (p .members) (p .memberCount) (p .fault) ≡ Failed action depth
-  pub leads : blockLeader lengthOf [] (p .code) (p .fault) ≡ Leader leader scan
+  pub leads : scanOf p ≡ Leader leader scan
   -- "the walk succeeds"
   pub walks : blockWalk (p .code) (p .members) (p .memberCount) leader (p .fault) room ≡ fits (done slots block)
   -- "its height exceeds the depth"

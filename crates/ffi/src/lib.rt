@@ -1,11 +1,8 @@
 // The C interface of the library: numbers and slices in, structs of numbers out. Every function takes any input.
-use bytecode::Measure;
 use casefile::Case;
 use cell::clear;
 use descriptor::Params;
-use descriptor::Slots;
 use items::part_at;
-use leader::Scan;
 use structs::KorsepalLeader;
 use structs::KorsepalLength;
 use structs::KorsepalName;
@@ -14,8 +11,11 @@ use structs::KorsepalReport;
 use structs::KorsepalSlots;
 use structs::KorsepalTypes;
 use structs::KorsepalWalk;
+use structs::leader_numbers;
+use structs::length_numbers;
 use structs::low_bits;
 use structs::report_numbers;
+use structs::slot_numbers;
 use structs::strict_numbers;
 use structs::walk_numbers;
 ghost use mathlib.Core.Path.{_≡_};
@@ -55,16 +55,8 @@ pub extern "C" fn korsepal_report(
 pub extern "C" fn korsepal_instruction_length(code: &[u8], pc: u64) -> KorsepalLength
     ensures { λ r. ⌜ r ≡ lengthNumbers (lengthOf (now (code .entry)) pc) ⌝ }
 {
-    match bytecode::instruction_length(code, pc as usize) {
-        Measure::Length(n) => KorsepalLength {
-            status: 0,
-            length: n as u64,
-        },
-        Measure::NoLength => KorsepalLength {
-            status: 1,
-            length: 0,
-        },
-    }
+    let length = bytecode::instruction_length(code, pc as usize);
+    length_numbers(length)
 }
 
 // The leader of the block that a fault lies in.
@@ -72,18 +64,8 @@ pub extern "C" fn korsepal_instruction_length(code: &[u8], pc: u64) -> KorsepalL
 pub extern "C" fn korsepal_block_leader(code: &[u8], fault: u64) -> KorsepalLeader
     ensures { λ r. ⌜ r ≡ leaderNumbers (blockLeader lengthOf [] (now (code .entry)) fault) ⌝ }
 {
-    match leader::block_leader(code, fault as usize) {
-        Scan::Leader { at, count } => KorsepalLeader {
-            found: 1,
-            scan: count as u64,
-            leader: at as u64,
-        },
-        Scan::Unmeasured { at: _, count } => KorsepalLeader {
-            found: 0,
-            scan: count as u64,
-            leader: 0,
-        },
-    }
+    let scan = leader::block_leader(code, fault as usize);
+    leader_numbers(scan)
 }
 
 // The slots of what a method returns.
@@ -91,16 +73,8 @@ pub extern "C" fn korsepal_block_leader(code: &[u8], fault: u64) -> KorsepalLead
 pub extern "C" fn korsepal_return_slots(descriptor: &[u8]) -> KorsepalSlots
     ensures { λ r. ⌜ r ≡ slotNumbers (returnSlots (now (descriptor .entry))) ⌝ }
 {
-    match descriptor::return_type_slots(descriptor) {
-        Slots::Slots(n) => KorsepalSlots {
-            status: 0,
-            slots: low_bits(n),
-        },
-        Slots::Unreadable => KorsepalSlots {
-            status: 1,
-            slots: 0,
-        },
-    }
+    let slots = descriptor::return_type_slots(descriptor);
+    slot_numbers(slots)
 }
 
 // The slots of a field.

@@ -7,6 +7,7 @@ use mathlib.Core.List.{List}
 use lib.ListN.{length}
 use Rattle.basics.specs.Bytes.{byteAt}
 use Rattle.jvms.specs.Format.{Format, fixed, tableswitch, lookupswitch, wide, reserved, widths, formatOf}
+use Rattle.jvms.specs.Stack.{keyAt}
 
 -- the bytes that the opcode alone fixes: "0 for the three variable ones"
 abbrev pub fixedBy : Format → ℕ
@@ -18,6 +19,10 @@ fixedBy reserved = 1
 
 unfoldable pub fixedLength : ℕ → ℕ
 fixedLength op = fixedBy (formatOf op)
+
+-- of the instruction at an index of a code
+abbrev pub sizeAt : List ℕ → ℕ → ℕ
+sizeAt code pc = fixedLength (keyAt code pc)
 
 -- a table of 256 entries that holds the fixed length of each opcode
 pub record FixedLengths (lengths : List ℕ) : Type 0 where

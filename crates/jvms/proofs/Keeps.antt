@@ -12,7 +12,7 @@ use Rattle.basics.specs.Choice.{pick}
 use Rattle.basics.proofs.Choice.{chosen}
 use Rattle.jvms.specs.Laws.{writesLocals, isListed, WroteOne}
 use Rattle.jvms.specs.Machine.{Pool, citedAt, State, below, topmost, perform, next}
-use Rattle.jvms.specs.Stack.{Entry, unlisted, does, eitherOf, loads, stores, increments, throws, Cited, entries, entryOf}
+use Rattle.jvms.specs.Stack.{Entry, unlisted, does, eitherOf, loads, stores, increments, throws, Cited, entries, entryOf, entryAt}
 use Rattle.jvms.proofs.Entries.{every-entry}
 use Rattle.jvms.proofs.Slots.{below-none, put-back, wrote-one}
 
@@ -81,9 +81,9 @@ module _ {Val : Type 0} where
     pub athrow-stays : byteAt code (st .pc) ≡ 191 → next pool code opaque st ≡ st
     athrow-stays e = rw e (athrow-state (citedAt pool code (st .pc)) code (opaque (st .pc)) st)
 
-    pub unlisted-stays : isListed (entryOf (byteAt code (st .pc))) ≡ false → next pool code opaque st ≡ st
+    pub unlisted-stays : isListed (entryAt code (st .pc)) ≡ false → next pool code opaque st ≡ st
     unlisted-stays n =
-        stayed (citedAt pool code (st .pc)) code (opaque (st .pc)) st (entryOf (byteAt code (st .pc))) (λ t. rw n at t)
+        stayed (citedAt pool code (st .pc)) code (opaque (st .pc)) st (entryAt code (st .pc)) (λ t. rw n at t)
 
     pub keeps-locals : writesLocals (byteAt code (st .pc)) ≡ false → next pool code opaque st .locals ≡ st .locals
     keeps-locals n =

@@ -3,6 +3,7 @@ pub mod Copy
 pub mod Entries
 pub mod Forms
 pub mod Keeps
+pub mod Keys
 pub mod Laws
 pub mod Loads
 pub mod Locals

@@ -16,7 +16,7 @@ use Rattle.jvms.specs.Extent.{Extent, extentBy, extentAt}
 use Rattle.jvms.specs.Format.{Format, fixed, tableswitch, lookupswitch, wide, reserved, widths, formats, formatOf}
 use Rattle.jvms.specs.Laws.{listed, isListed, bytesOf, FixedSize}
 use Rattle.jvms.specs.Machine.{Pool, citedAt, sizeOf, State, perform, next}
-use Rattle.jvms.specs.Stack.{Entry, unlisted, does, eitherOf, loads, stores, increments, throws, Cited, entries, entryOf}
+use Rattle.jvms.specs.Stack.{Entry, unlisted, does, eitherOf, loads, stores, increments, throws, Cited, entries, entryOf, entryAt}
 use Rattle.jvms.proofs.Entries.{every-entry}
 
 -- ---- the table
@@ -73,7 +73,7 @@ module _ (code : List ℕ) (pc : ℕ) where
   sized n wide e t = absurd t
   sized n reserved e t = absurd t
 
-  listed-sized : T (isListed (entryOf (byteAt code pc))) → Sized (bytesOf (byteAt code pc))
+  listed-sized : T (isListed (entryAt code pc)) → Sized (bytesOf (byteAt code pc))
   listed-sized t = by-listed (isListed (entryOf op)) t (listed-measure op)
     where
       op : ℕ
@@ -83,7 +83,7 @@ module _ (code : List ℕ) (pc : ℕ) where
       by-listed true t u = sized (bytesOf op) (formatOf op) refl u
       by-listed false t u = absurd t
 
-  pub fixed-size : T (isListed (entryOf (byteAt code pc))) → FixedSize code pc
+  pub fixed-size : T (isListed (entryAt code pc)) → FixedSize code pc
   fixed-size t = listed-sized t .size
 
 -- ---- the machine
@@ -111,7 +111,7 @@ module _ {Val : Type 0} where
 
   module _ (pool : Pool) (code : List ℕ) (opaque : ℕ → ℕ → Val) (st : State Val) where
     pub steps-on :
-        T (isListed (entryOf (byteAt code (st .pc)))) → (byteAt code (st .pc) ≡ 191 → ⊥) →
+        T (isListed (entryAt code (st .pc))) → (byteAt code (st .pc) ≡ 191 → ⊥) →
         next pool code opaque st .pc ≡ st .pc + bytesOf (byteAt code (st .pc))
     steps-on t other =
         let op = byteAt code (st .pc) in
@@ -121,7 +121,7 @@ module _ {Val : Type 0} where
         ∙ ap (λ (x : Extent). st .pc + sizeOf x) (here .size .extent) ∙ ap (λ (n : ℕ). st .pc + n) (here .counted)
 
     pub leaves-listed :
-        T (isListed (entryOf (byteAt code (st .pc)))) → (byteAt code (st .pc) ≡ 191 → ⊥) → st .pc < next pool code opaque st .pc
+        T (isListed (entryAt code (st .pc))) → (byteAt code (st .pc) ≡ 191 → ⊥) → st .pc < next pool code opaque st .pc
     leaves-listed t other = omega (arith, steps-on t other, listed-sized code (st .pc) t .counted)
 
     pub invokeinterface-five : byteAt code (st .pc) ≡ 185 → next pool code opaque st .pc ≡ st .pc + 5
@@ -131,4 +131,4 @@ module _ {Val : Type 0} where
         ∙ ap (λ (op : ℕ). st .pc + bytesOf op) e
 
     pub never-back : st .pc ≤ next pool code opaque st .pc
-    never-back = not-back (citedAt pool code (st .pc)) code (opaque (st .pc)) st (entryOf (byteAt code (st .pc)))
+    never-back = not-back (citedAt pool code (st .pc)) code (opaque (st .pc)) st (entryAt code (st .pc))

@@ -11,7 +11,7 @@ use Rattle.basics.specs.Choice.{pick, oneOf, between}
 use Rattle.jvms.specs.Extent.{takes, extentAt}
 use Rattle.jvms.specs.Format.{Operand, fixed, widths, formatOf}
 use Rattle.jvms.specs.Machine.{Pool, State, replaced, next, ran}
-use Rattle.jvms.specs.Stack.{Cited, Form, Entry, unlisted, does, eitherOf, loads, stores, increments, throws, entryOf}
+use Rattle.jvms.specs.Stack.{Cited, Form, Entry, unlisted, does, eitherOf, loads, stores, increments, throws, entryOf, entryAt}
 
 -- ---- loads and stores, by number
 
@@ -164,18 +164,18 @@ pub record MachineLaws (Val : Type 0) (pool : Pool) (code : List ℕ) (opaque : 
   -- the table lists these opcodes and no other
   pub lists : (op : ℕ) → op < 256 → isListed (entryOf op) ≡ listed op
   -- a listed opcode has a fixed format
-  pub fixedSize : (pc : ℕ) → T (isListed (entryOf (byteAt code pc))) → FixedSize code pc
+  pub fixedSize : (pc : ℕ) → T (isListed (entryAt code pc)) → FixedSize code pc
   -- the machine goes on behind it, by the bytes counted above; behind an invokeinterface by five
   pub steps :
-      (st : State Val) → T (isListed (entryOf (byteAt code (st .pc)))) → (byteAt code (st .pc) ≡ 191 → ⊥) →
+      (st : State Val) → T (isListed (entryAt code (st .pc))) → (byteAt code (st .pc) ≡ 191 → ⊥) →
       next pool code opaque st .pc ≡ st .pc + bytesOf (byteAt code (st .pc))
   pub invokeinterface : (st : State Val) → byteAt code (st .pc) ≡ 185 → next pool code opaque st .pc ≡ st .pc + 5
   -- so it leaves every listed instruction but athrow
   pub leaves :
-      (st : State Val) → T (isListed (entryOf (byteAt code (st .pc)))) → (byteAt code (st .pc) ≡ 191 → ⊥) →
+      (st : State Val) → T (isListed (entryAt code (st .pc))) → (byteAt code (st .pc) ≡ 191 → ⊥) →
       st .pc < next pool code opaque st .pc
   -- athrow and whatever is not listed change nothing
   pub athrow : (st : State Val) → byteAt code (st .pc) ≡ 191 → next pool code opaque st ≡ st
-  pub unlistedStays : (st : State Val) → isListed (entryOf (byteAt code (st .pc))) ≡ false → next pool code opaque st ≡ st
+  pub unlistedStays : (st : State Val) → isListed (entryAt code (st .pc)) ≡ false → next pool code opaque st ≡ st
   -- the index never falls
   pub neverBack : (st : State Val) → st .pc ≤ next pool code opaque st .pc

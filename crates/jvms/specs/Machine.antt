@@ -12,7 +12,7 @@ use Rattle.basics.specs.Choice.{pick}
 use Rattle.jvms.specs.Descriptor.{FieldType, MethodType, slots, slotsAll, returnSlots}
 use Rattle.jvms.specs.Extent.{Extent, takes, reservedOpcode, notWidened, lowAboveHigh, negativePairs, extentAt}
 use Rattle.jvms.specs.Stack.{Name, objectref, arrayref, Operand, Form, Local, indexed, numbered, Entry, unlisted, does, eitherOf, loads, stores, increments, throws}
-use Rattle.jvms.specs.Stack.{Cited, slotsOf, slotsIn, nameOf, sameName, entryOf, operandsOf}
+use Rattle.jvms.specs.Stack.{Cited, slotsOf, slotsIn, nameOf, sameName, entryAt, operandsOf}
 
 -- what each pool index stands for, as trees of JVMS 4.3
 pub record Pool : Type 0 where
@@ -119,7 +119,7 @@ module _ {Val : Type 0} where
   -- opaque: each instruction's own results, by its index and their number. A block runs each index once.
   module _ (pool : Pool) (code : List ℕ) (opaque : ℕ → ℕ → Val) where
     abbrev pub next : State Val → State Val
-    next st = perform (citedAt pool code (st .pc)) code (opaque (st .pc)) st (entryOf (byteAt code (st .pc)))
+    next st = perform (citedAt pool code (st .pc)) code (opaque (st .pc)) st (entryAt code (st .pc))
 
     -- the state after so many instructions
     unfoldable pub ran : ℕ → State Val → State Val
@@ -131,5 +131,5 @@ module _ {Val : Type 0} where
   unfoldable pub target : Pool → List ℕ → State Val → List Val
   target pool code st =
       let cited : Cited = citedAt pool code (st .pc) in
-      let operands : List Operand = operandsOf (entryOf (byteAt code (st .pc))) in
+      let operands : List Operand = operandsOf (entryAt code (st .pc)) in
       dereferenced cited operands (topmost (slotsIn cited operands) (st .stack))

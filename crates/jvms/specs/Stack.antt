@@ -7,6 +7,7 @@ use Prim.Native.Nat.{ℕ, zero, suc, _+_}
 use mathlib.Core.Bool.{Bool}
 use mathlib.Core.List.{List, [], _∷_}
 use lib.Dec.{eqb}
+use Rattle.basics.specs.Bytes.{byteAt}
 
 pub data Name : Type 0 where
   value value1 value2 constant null objectref arrayref index count size result args : Name
@@ -319,6 +320,17 @@ entryIn (e ∷ es) (suc op) = entryIn es op
 unfoldable pub entryOf : ℕ → Entry
 unfolding entries
 entryOf op = entryIn entries op
+
+-- The instruction at an index of a code, as a key of this table and of every other table by opcode; how many keys there are; and
+-- its entry.
+abbrev pub keyAt : List ℕ → ℕ → ℕ
+keyAt code pc = byteAt code pc
+
+abbrev pub keyCount : ℕ
+keyCount = 256
+
+abbrev pub entryAt : List ℕ → ℕ → Entry
+entryAt code pc = entryOf (keyAt code pc)
 
 -- the operands that JVMS lists for an instruction; those of a first form, where it has two
 abbrev pub operandsOf : Entry → List Operand

@@ -4,12 +4,12 @@ use Prim.Native.Nat.{ℕ, zero, suc, _+_, _-_, _*_, _^_, max, _≤_, _<_}
 use native.Mathlib.Nat.{not-suc-le-zero, suc-mul}
 use native.Mathlib.Numerals.{sub-one}
 use native.Mathlib.Omega.{arith}
-use mathlib.Core.Path.{_≡_, refl}
+use mathlib.Core.Path.{_≡_}
 use mathlib.Core.List.{List, [], _∷_, _++_}
+use borrow.Author.Tests.{le-leb}
 use Rattle.bytecode.specs.Length.{operandsAt}
 use Rattle.reads.specs.Signed.{i32At}
-use Rattle.greatest.specs.Greatest.{upTo, greatest}
-use Rattle.greatest.specs.Greatest.{target}
+use Rattle.greatest.specs.Greatest.{upTo, greatest, target}
 use Rattle.leader.specs.Targets.{entryTargets, switchTargets}
 
 -- the greatest over two lists is the greater of each
@@ -28,6 +28,11 @@ raised-by limit best xs ys = omega (arith, greatest-append limit xs ys)
 pub greatest-one : (limit x : ℕ) → greatest limit (x ∷ []) ≡ upTo limit x
 unfolding greatest
 greatest-one limit x = omega arith
+
+-- 0 adds nothing
+pub none-more : (limit : ℕ) (xs : List ℕ) → greatest limit (0 ∷ xs) ≡ greatest limit xs
+unfolding greatest upTo
+none-more limit xs = rw (le-leb 0 limit (omega arith)) (omega arith)
 
 -- a running maximum over the entries of a switch: no entry left, and one that is taken
 module _ (code : List ℕ) (pc step limit best at : ℕ) where

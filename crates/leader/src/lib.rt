@@ -5,7 +5,7 @@ use bytecode::Measure;
 use greatest::aim;
 use greatest::raise;
 ghost use mathlib.Core.Path.{_≡_};
-ghost use mathlib.Core.List.{[]};
+ghost use mathlib.Core.List.{[], _∷_};
 ghost use Prim.Native.Nat.{_+_, _-_, _*_, _^_, max, _≤_, _<_};
 ghost use lib.ListN.{length};
 ghost use Rattle.bytecode.specs.Length.{operandsAt, bytesOf, lengthOf};
@@ -92,13 +92,14 @@ fn leaders_at(code: &[u8], pc: usize, next: usize, fault: usize, best: usize) ->
     }
 }
 
-// The greatest leader at or below the fault. The whole code is measured, past the fault too.
-pub fn block_leader(code: &[u8], fault: usize) -> Scan
-    ensures { λ r. ⌜ r ≡ blockLeader lengthOf [] (now (code .entry)) fault ⌝ }
+// The greatest leader at or below the fault, with one leader more than the code gives. The whole code is measured, past the
+// fault too.
+pub fn scan_with(code: &[u8], extra: usize, fault: usize) -> Scan
+    ensures { λ r. ⌜ r ≡ blockLeader lengthOf (extra ∷ []) (now (code .entry)) fault ⌝ }
 {
     let lengths = fixed::fixed_lengths();
     let mut pc: usize = 0;
-    let mut best: usize = 0;
+    let mut best: usize = raise(fault, 0, extra);
     let mut count: usize = 0;
     while pc < code.len() {
         let Measure::Length(bytes) = bytecode::length_by(&lengths, code, pc) else {
@@ -109,4 +110,11 @@ pub fn block_leader(code: &[u8], fault: usize) -> Scan
         pc += bytes;
     }
     Scan::Leader { at: best, count }
+}
+
+// The same with the code's own leaders alone: 0 is one of every code, and adds nothing.
+pub fn block_leader(code: &[u8], fault: usize) -> Scan
+    ensures { λ r. ⌜ r ≡ blockLeader lengthOf [] (now (code .entry)) fault ⌝ }
+{
+    scan_with(code, 0, fault)
 }

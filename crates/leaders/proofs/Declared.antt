@@ -1,4 +1,4 @@
--- The scan answers the greatest leader as it is declared, and condition 3's last clause follows.
+-- The scan answers the greatest leader as it is declared; condition 3's last clause follows, and what extra leaders do.
 -- Rests on: where instructions land (Landings), the greatest of a list (Most).
 -- Assumes nothing.
 use Prim.Native.Nat.{ℕ, zero, suc, _+_, _-_, _≤_, _<_}
@@ -7,25 +7,24 @@ use native.Mathlib.Nat.{sub-zero}
 use mathlib.Core.Path.{_≡_, refl, _∙_, sym, ap, ap₂, subst, subst₂}
 use mathlib.Core.Bool.{Bool, true, false}
 use mathlib.Core.Logic.{⊎-elim, _⊎_, inl, inr}
-use mathlib.Core.List.{List, [], _∷_, _++_, List·Memᴰ·head, List·Memᴰ·not-nil, List·Memᴰ·eq-of-singleton, Memᴰ·append-left, Memᴰ·append-right, List·Memᴰ·append-cases, Memᴰ·cast}
-use lib.Dec.{T, ltb}
+use mathlib.Core.List.{List, [], _∷_, _++_, List·Memᴰ·head, List·Memᴰ·not-nil, List·Memᴰ·eq-of-singleton, Memᴰ·append-left, Memᴰ·append-right, List·Memᴰ·append-cases}
+use lib.Dec.{T}
 use lib.ListN.{length}
-use borrow.Author.Tests.{ltb-true, ltb-false}
 use Rattle.basics.specs.Bytes.{byteAt, AreBytes}
 use Rattle.basics.specs.Choice.{pick}
 use Rattle.basics.specs.Member.{_∈_}
 use Rattle.jvms.specs.Branch.{landingsAt, endsBlock}
 use Rattle.bytecode.proofs.Laws.{rule-positive, rule-inside}
 use Rattle.bytecode.specs.Rule.{LengthRule}
-use Rattle.bytecode.specs.declared.Measure.{Measure}
-use Rattle.bytecode.specs.declared.Measure.the-variants.{Length, NoLength}
+use Rattle.bytecode.specs.declared.Measure.the-variants.{Length}
 use Rattle.greatest.specs.Greatest.{greatest}
-use Rattle.leader.specs.Scan.{Instructions, ended, unmeasured, instruction, scanStep, scanFrom, instructions, scanCount, leadersOf, answered, blockLeader}
+use Rattle.leader.specs.Scan.{Instructions, ended, unmeasured, instruction, scanFrom, instructions, scanCount, leadersOf, answered, blockLeader}
 use Rattle.leader.specs.Targets.{leadersAt}
 use Rattle.leader.specs.declared.Scan.{Scan}
 use Rattle.leader.specs.declared.Scan.the-variants.{Leader, Unmeasured}
-use Rattle.leader.proofs.Scanning.{scan-one, scan-stops, scan-ends}
-use Rattle.leaders.specs.Leader.{Arrived, start, next, Reached, IsLeader, zeroth, target, after, added, Wanted, Means, LeaderDeclared, NothingLandsBetween}
+use Rattle.leader.proofs.Greatest.{none-more}
+use Rattle.leader.proofs.Scanning.{Turn, at-end, without, with-length, turn, scan-one, scan-stops, scan-ends, led-alike as alike}
+use Rattle.leaders.specs.Leader.{Arrived, start, next, Reached, IsLeader, zeroth, target, after, added, Wanted, Means, LeaderDeclared, NothingLandsBetween, NothingAddedBetween, LedAlike, ZeroAddsNothing}
 use Rattle.leaders.proofs.Landings.{leaders-agree}
 use Rattle.leaders.proofs.Most.{greatest-below, greatest-most, greatest-member}
 
@@ -83,7 +82,7 @@ module _ (rule : LengthRule) (code : List ℕ) where
   abbrev Stops : ℕ → ℕ → Scan → Type 0
   Stops leader total (Leader at count) = (at ≡ leader) × (count ≡ total) × Arrived rule code count (length code)
   Stops leader total (Unmeasured pc count) =
-      Arrived rule code count pc × (pc < length code) × (rule .measure code pc ≡ NoLength)
+      Arrived rule code count pc × (pc < length code) × ((n : ℕ) → rule .measure code pc ≡ Length n → ⊥)
 
   at-the-end :
       {count pc : ℕ} (leader total : ℕ) → Arrived rule code count pc → length code ≤ pc → total ≡ count + 0 →
@@ -100,24 +99,22 @@ module _ (rule : LengthRule) (code : List ℕ) where
   unfolding scanFrom answered scanCount
   stops zero count pc arrived enough leader total counted = at-the-end leader total arrived (omega arith) counted
   stops (suc k) count pc arrived enough leader total counted =
-      by-measure (ltb pc (length code)) refl (rule .measure code pc) refl counted (λ n. stops k (suc count) (pc + n))
+      by-turn (turn (rule .measure) code pc k) counted (λ n. stops k (suc count) (pc + n))
     where
       following : ℕ → Instructions
       following p = scanFrom (rule .measure) code k p
 
-      by-measure :
-          (t : Bool) → ltb pc (length code) ≡ t → (answer : Measure) → rule .measure code pc ≡ answer →
-          total ≡ count + scanCount (scanStep t answer pc following) →
+      by-turn :
+          {found : Instructions} → Turn (rule .measure) code pc k found → total ≡ count + scanCount found →
           ((n : ℕ) → Arrived rule code (suc count) (pc + n) → length code ≤ pc + n + k →
           (l s : ℕ) → s ≡ suc count + scanCount (following (pc + n)) → Stops l s (answered (following (pc + n)) l s)) →
-          Stops leader total (answered (scanStep t answer pc following) leader total)
-      by-measure false e answer measured c rest = at-the-end leader total arrived (ltb-false pc (length code) e) c
-      by-measure true e (Length n) measured c rest =
-          rest n (next arrived (ltb-true pc (length code) e) measured) (omega (arith, rule-positive rule code pc n measured)) leader total
-          (omega (arith, c))
-      by-measure true e NoLength measured c rest =
+          Stops leader total (answered found leader total)
+      by-turn (at-end here) c rest = at-the-end leader total arrived here c
+      by-turn (without inside none) c rest =
           let all : count ≡ total = omega (arith, c) in
-          (subst (λ (j : ℕ). Arrived rule code j pc) all arrived, ltb-true pc (length code) e, measured)
+          (subst (λ (j : ℕ). Arrived rule code j pc) all arrived, inside, none)
+      by-turn (with-length {n = n} inside measured) c rest =
+          rest n (next arrived inside measured) (omega (arith, rule-positive rule code pc n measured)) leader total (omega (arith, c))
 
   -- ---- what the scan gives is what a leader is
 
@@ -127,7 +124,7 @@ module _ (rule : LengthRule) (code : List ℕ) where
   unfolding scanFrom leadersOf
   forward x zero are arrived extra m = absurd (List·Memᴰ·not-nil m)
   forward x (suc k) {count} {pc} are arrived extra m =
-      by-measure (ltb pc (length code)) refl (rule .measure code pc) refl m (λ n a. forward x k {pc = pc + n} are a extra)
+      by-turn (turn (rule .measure) code pc k) m (λ n a. forward x k {pc = pc + n} are a extra)
     where
       following : ℕ → Instructions
       following p = scanFrom (rule .measure) code k p
@@ -151,19 +148,17 @@ module _ (rule : LengthRule) (code : List ℕ) where
           (λ (l : x ∈ pick (endsBlock (byteAt code pc)) ((pc + n) ∷ []) []). behind n inside measured (endsBlock (byteAt code pc)) refl l)
           (List·Memᴰ·append-cases (landingsAt code pc) (rw (leaders-agree code are pc (pc + n)) at w))
 
-      by-measure :
-          (t : Bool) → ltb pc (length code) ≡ t → (answer : Measure) → rule .measure code pc ≡ answer →
-          x ∈ leadersOf code (scanStep t answer pc following) →
+      by-turn :
+          {found : Instructions} → Turn (rule .measure) code pc k found → x ∈ leadersOf code found →
           ((n : ℕ) → Arrived rule code (suc count) (pc + n) → x ∈ leadersOf code (following (pc + n)) → IsLeader rule extra code x) →
           IsLeader rule extra code x
-      by-measure false e answer measured w rest = absurd (List·Memᴰ·not-nil w)
-      by-measure true e (Length n) measured w rest =
-          let inside = ltb-true pc (length code) e in
+      by-turn (at-end here) w rest = absurd (List·Memᴰ·not-nil w)
+      by-turn (without inside none) w rest = absurd (List·Memᴰ·not-nil w)
+      by-turn (with-length {n = n} inside measured) w rest =
           ⊎-elim
           (λ (here : x ∈ leadersAt code pc (pc + n)). given n inside measured here)
           (λ (there : x ∈ leadersOf code (following (pc + n))). rest n (next arrived inside measured) there)
           (List·Memᴰ·append-cases (leadersAt code pc (pc + n)) w)
-      by-measure true e NoLength measured w rest = absurd (List·Memᴰ·not-nil w)
 
   -- a measured instruction that is reached has its part in the scan
   gives-own :
@@ -181,18 +176,21 @@ module _ (rule : LengthRule) (code : List ℕ) where
       {pc : ℕ} (leader total at count : ℕ) → Reached rule code pc →
       answered (instructions (rule .measure) code) leader total ≡ Leader at count → (n : ℕ) × (rule .measure code pc ≡ Length n)
   unfolding answered
-  has-length {pc} leader total at count reached e = by-measure (rule .measure code pc) refl
+  has-length {pc} leader total at count reached e =
+      let within = arrived-within (reached .arrived) in
+      let left = length code - reached .count - 1 in
+      let some : length code - reached .count ≡ suc left = omega (arith, within .0, reached .inside) in
+      by-turn (turn (rule .measure) code pc left)
+      (sym (along (reached .arrived) .ends leader total
+      ∙ ap (λ (k : ℕ). answered (scanFrom (rule .measure) code k pc) leader total) some)
+      ∙ e)
     where
-      by-measure : (answer : Measure) → rule .measure code pc ≡ answer → (n : ℕ) × (rule .measure code pc ≡ Length n)
-      by-measure (Length n) measured = (n, measured)
-      by-measure NoLength measured =
-          let within = arrived-within (reached .arrived) in
-          let some : 0 < length code - reached .count = omega (arith, within .0, reached .inside) in
-          let cut : restAt (reached .count) pc ≡ unmeasured pc = scan-stops (rule .measure) code pc (length code - reached .count) some (reached .inside) measured in
-          let stopped : answered (instructions (rule .measure) code) leader total ≡ Unmeasured pc total =
-          along (reached .arrived) .ends leader total ∙ ap (λ (r : Instructions). answered r leader total) cut in
-          let z : _≡_ {A = ℕ} 0 1 = cc in
-          absurd (omega arith)
+      by-turn :
+          {k : ℕ} {found : Instructions} → Turn (rule .measure) code pc k found → answered found leader total ≡ Leader at count →
+          (n : ℕ) × (rule .measure code pc ≡ Length n)
+      by-turn (at-end here) ends = absurd (omega (arith, here, reached .inside))
+      by-turn (without inside none) ends = let z : _≡_ {A = ℕ} 0 1 = cc in absurd (omega arith)
+      by-turn (with-length {n = n} inside measured) ends = (n, measured)
 
   backward :
       (are : AreBytes code) (extra : List ℕ) {x : ℕ} (leader total at count : ℕ) →
@@ -288,3 +286,14 @@ pub nothing-lands-between : NothingLandsBetween
 nothing-lands-between rule extra code are fault leader count inside e pc x reached lands above below =
     let wanted = subst (λ (s : Scan). Means rule extra code fault s) e (means rule extra code are fault) .1 in
     omega (arith, wanted .greatest x (target reached lands) below)
+
+pub nothing-added-between : NothingAddedBetween
+nothing-added-between rule extra code are fault leader count e x listed above below =
+    let wanted = subst (λ (s : Scan). Means rule extra code fault s) e (means rule extra code are fault) .1 in
+    omega (arith, wanted .greatest x (added listed) below)
+
+pub led-alike : LedAlike
+led-alike = alike
+
+pub zero-adds-nothing : ZeroAddsNothing
+zero-adds-nothing measure code fault extra = led-alike measure code fault (0 ∷ extra) extra (none-more fault extra)

@@ -4,14 +4,16 @@
 -- Assumes nothing.
 use Prim.Native.Nat.{ℕ, suc, _+_, _≤_, _<_}
 use mathlib.Core.Path.{_≡_}
-use mathlib.Core.List.{List}
+use mathlib.Core.List.{List, _∷_}
 use lib.Dec.{T}
 use lib.ListN.{length}
 use Rattle.basics.specs.Bytes.{byteAt, AreBytes}
 use Rattle.basics.specs.Member.{_∈_}
 use Rattle.jvms.specs.Branch.{landingsAt, endsBlock}
 use Rattle.bytecode.specs.Rule.{LengthRule}
-use Rattle.bytecode.specs.declared.Measure.the-variants.{Length, NoLength}
+use Rattle.bytecode.specs.declared.Measure.{Measure}
+use Rattle.bytecode.specs.declared.Measure.the-variants.{Length}
+use Rattle.greatest.specs.Greatest.{greatest}
 use Rattle.leader.specs.Scan.{blockLeader}
 use Rattle.leader.specs.Targets.{targetsAt}
 use Rattle.leader.specs.declared.Scan.{Scan}
@@ -50,11 +52,12 @@ pub record Wanted (rule : LengthRule) (extra code : List ℕ) (fault leader : �
 abbrev pub MeasuredToEnd : LengthRule → List ℕ → ℕ → Type 0
 MeasuredToEnd rule code count = Arrived rule code count (length code)
 
--- what an answer of the scan means. The count is that of the instructions reached and measured.
+-- what an answer of the scan means. The count is that of the instructions reached and measured. Unmeasured is an instruction that
+-- has no length, for whatever reason.
 abbrev pub Means : LengthRule → List ℕ → List ℕ → ℕ → Scan → Type 0
 Means rule extra code fault (Leader leader count) = MeasuredToEnd rule code count × Wanted rule extra code fault leader
 Means rule extra code fault (Unmeasured pc count) =
-    Arrived rule code count pc × (pc < length code) × (rule .measure code pc ≡ NoLength)
+    Arrived rule code count pc × (pc < length code) × ((n : ℕ) → rule .measure code pc ≡ Length n → ⊥)
 
 -- ---- the statements
 
@@ -74,6 +77,26 @@ NothingLandsBetween =
     (rule : LengthRule) (extra code : List ℕ) → AreBytes code → (fault leader count : ℕ) → fault < length code →
     blockLeader (rule .measure) extra code fault ≡ Leader leader count →
     (pc x : ℕ) → Reached rule code pc → x ∈ landingsAt code pc → leader < x → x ≤ fault → ⊥
+
+-- nor does one of the extra leaders lie there
+abbrev pub NothingAddedBetween : Type 0
+NothingAddedBetween =
+    (rule : LengthRule) (extra code : List ℕ) → AreBytes code → (fault leader count : ℕ) →
+    blockLeader (rule .measure) extra code fault ≡ Leader leader count →
+    (x : ℕ) → x ∈ extra → leader < x → x ≤ fault → ⊥
+
+-- Extra leaders count by their greatest at or below the fault alone: two lists that have the same lead alike. So a list of them
+-- can reach the scan as one number.
+abbrev pub LedAlike : Type 0
+LedAlike =
+    (measure : List ℕ → ℕ → Measure) (code : List ℕ) (fault : ℕ) (one another : List ℕ) →
+    greatest fault one ≡ greatest fault another → blockLeader measure one code fault ≡ blockLeader measure another code fault
+
+-- 0, a leader of every code, adds nothing
+abbrev pub ZeroAddsNothing : Type 0
+ZeroAddsNothing =
+    (measure : List ℕ → ℕ → Measure) (code : List ℕ) (fault : ℕ) (extra : List ℕ) →
+    blockLeader measure (0 ∷ extra) code fault ≡ blockLeader measure extra code fault
 
 -- the targets that document 01 gives an instruction are the indexes where JVMS lands it
 abbrev pub TargetsAgree : Type 0

@@ -32,7 +32,7 @@ module _ (p : Parts) (room : ℕ) (out : List ℕ) where
         (index : ℕ) → decoded (p .code) (p .members) (p .memberCount) (p .fault) ≡ Failed action depth →
         traced (p .code) (p .members) (p .memberCount) (p .fault) depth room ≡ NoRoom index →
         Reports (report.NoRoom index) out
-    unfolding saidOf
+    unfolding saidOf traced
     is-roomless index e t = record { answers = rw (e, t); leaves = rw (e, t) }
 
     pub is-said :
@@ -44,5 +44,5 @@ module _ (p : Parts) (room : ℕ) (out : List ℕ) where
         (kindOf cause) scan block)
         out answer left →
         Reports answer left
-    unfolding saidOf messageOf
+    unfolding saidOf messageOf traced
     is-said scan block cause e t instance i answer left delivered = rw (e, t, ← i) delivered

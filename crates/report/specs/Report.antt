@@ -1,7 +1,10 @@
 -- The report of a case (document 01, "Numbers returned"): its answer, the output and the stack at exit.
 -- Assumes nothing.
 use Prim.Native.Nat.{ℕ}
-use mathlib.Core.List.{List}
+use mathlib.Core.List.{List, []}
+use Rattle.bytecode.specs.Length.{lengthOf}
+use Rattle.leader.specs.Scan.{blockLeader}
+use Rattle.leader.specs.declared.Scan.{Scan}
 use Rattle.casefile.specs.Parts.{Parts, partsOf}
 use Rattle.casefile.specs.Whole.{caseOf}
 use Rattle.casefile.specs.declared.Case.{Case}
@@ -14,7 +17,7 @@ use Rattle.fault.specs.declared.Fault.{Fault}
 use Rattle.fault.specs.declared.Fault.the-variants.{Failed, Nothing}
 use Rattle.locals.specs.Name.{isInstance}
 use Rattle.message.specs.Message.{messageText}
-use Rattle.trace.specs.Trace.{traced}
+use Rattle.trace.specs.Trace.{tracedBy}
 use Rattle.answer.specs.declared.Report.{Report}
 use Rattle.answer.specs.declared.Report.the-variants as report
 use Rattle.trace.specs.declared.Trace.{Trace}
@@ -38,14 +41,21 @@ partsBy flags fault code signature members memberCount records recordCount =
       records = records;
     }
 
+-- how a report scans: by document 01's lengths, with no leader but those that the code gives
+abbrev pub scanOf : Parts → Scan
+scanOf p = blockLeader lengthOf [] (p .code) (p .fault)
+
+-- the cause of the fault, whose reference lies at a depth, with so many cells lent
+abbrev pub tracedIn : Parts → ℕ → ℕ → Trace
+tracedIn p depth room = tracedBy (p .code) (p .members) (p .memberCount) (p .fault) depth room (scanOf p)
+
 abbrev pub saidBy : Parts → Action → Trace → Said
 saidBy p action (trace.NoRoom index) = roomless index
 saidBy p action (trace.Traced scan block cause) = said (messageOf p action cause) (kindOf cause) scan block
 
 abbrev pub saidAt : Parts → ℕ → Fault → Said
 saidAt p room Nothing = silent
-saidAt p room (Failed action depth) =
-    saidBy p action (traced (p .code) (p .members) (p .memberCount) (p .fault) depth room)
+saidAt p room (Failed action depth) = saidBy p action (tracedIn p depth room)
 
 -- of the parts of a case, with so many cells lent
 unfoldable pub saidOf : Parts → ℕ → Said

@@ -1,9 +1,12 @@
 // The library's answers as structs of numbers, for C. A number that an answer does not carry is 0.
 use answer::Report;
+use bytecode::Measure;
+use descriptor::Slots;
 use judging::Answer;
+use leader::Scan;
 use walk::Walk;
 ghost use mathlib.Core.Path.{_≡_};
-ghost use Rattle.structs.specs.Structs.{low, reportNumbers, walkNumbers, strictNumbers};
+ghost use Rattle.structs.specs.Structs.{low, reportNumbers, lengthNumbers, leaderNumbers, slotNumbers, walkNumbers, strictNumbers};
 
 // The report of a case.
 #[repr(C)]
@@ -113,6 +116,56 @@ pub fn report_numbers(answer: Report) -> KorsepalReport
         Report::NoRoom { at } => carried(3, at),
         Report::NoOutput { needed } => carried(4, needed),
         Report::TooLong => carried(5, 0),
+    }
+}
+
+// The numbers of a length.
+pub fn length_numbers(length: Measure) -> KorsepalLength
+    ensures { λ r. ⌜ r ≡ lengthNumbers length ⌝ }
+{
+    match length {
+        Measure::Length(n) => KorsepalLength {
+            status: 0,
+            length: n as u64,
+        },
+        Measure::NoLength => KorsepalLength {
+            status: 1,
+            length: 0,
+        },
+    }
+}
+
+// The numbers of a scan.
+pub fn leader_numbers(scan: Scan) -> KorsepalLeader
+    ensures { λ r. ⌜ r ≡ leaderNumbers scan ⌝ }
+{
+    match scan {
+        Scan::Leader { at, count } => KorsepalLeader {
+            found: 1,
+            scan: count as u64,
+            leader: at as u64,
+        },
+        Scan::Unmeasured { at: _, count } => KorsepalLeader {
+            found: 0,
+            scan: count as u64,
+            leader: 0,
+        },
+    }
+}
+
+// The numbers of a return's slots.
+pub fn slot_numbers(slots: Slots) -> KorsepalSlots
+    ensures { λ r. ⌜ r ≡ slotNumbers slots ⌝ }
+{
+    match slots {
+        Slots::Slots(n) => KorsepalSlots {
+            status: 0,
+            slots: low_bits(n),
+        },
+        Slots::Unreadable => KorsepalSlots {
+            status: 1,
+            slots: 0,
+        },
     }
 }
 

@@ -4,6 +4,7 @@ use Prim.Native.Nat.{ℕ, _+_, _≤_}
 use native.Mathlib.Omega.{arith}
 use mathlib.Core.Bool.{Bool, true, false}
 use mathlib.Core.List.{List}
+use lib.Dec.{ltb}
 use lib.ListN.{length}
 use Rattle.basics.specs.Choice.{pick}
 use Rattle.number.specs.Number.{greatest, numberAt, numberWithin, thenNumber}
@@ -14,7 +15,7 @@ use Rattle.items.specs.declared.Text.{Text}
 use Rattle.items.specs.declared.Text.the-variants.{Place, NotText}
 use Rattle.number.proofs.Laws.{number-within}
 use Rattle.items.proofs.Laws.{text-within}
-use Rattle.tables.specs.Layout.{Layout, number, text, ended, runBy, runWithin}
+use Rattle.tables.specs.Layout.{Layout, number, sized, mayEnd, ended, runBy, runWithin}
 use Rattle.tables.specs.declared.Run.{Run}
 use Rattle.tables.specs.declared.Run.the-variants.{End, Wrong}
 
@@ -38,13 +39,20 @@ run-within (number right following) bytes at =
         by-test true = later-within (length bytes) at next (omega arith) (h .2) (runBy (following v) bytes next) (rest v next)
         by-test false = tt
     of NotNumber h rest = tt
-run-within (text following) bytes at =
-    of (textAt bytes at) (text-within bytes at) (λ next. run-within following bytes next)
+run-within (sized following) bytes at =
+    of (textAt bytes at) (text-within bytes at) (λ size next. run-within (following size) bytes next)
   where
     of :
         (t : Text) → textWithin (length bytes) at t →
-        ((next : ℕ) → runWithin (length bytes) next (runBy following bytes next)) →
-        runWithin (length bytes) at (thenText t (Wrong at) (λ start size. runBy following bytes (start + size)))
+        ((size next : ℕ) → runWithin (length bytes) next (runBy (following size) bytes next)) →
+        runWithin (length bytes) at (thenText t (Wrong at) (λ start size. runBy (following size) bytes (start + size)))
     of (Place start size) h rest =
-        later-within (length bytes) at (start + size) (omega arith) (h .2) (runBy following bytes (start + size)) (rest (start + size))
+        later-within (length bytes) at (start + size) (omega arith) (h .2) (runBy (following size) bytes (start + size)) (rest size (start + size))
     of NotText h rest = tt
+run-within (mayEnd following) bytes at = by-test (ltb at (length bytes)) (run-within following bytes at)
+  where
+    by-test :
+        (t : Bool) → runWithin (length bytes) at (runBy following bytes at) →
+        runWithin (length bytes) at (pick t (runBy following bytes at) (End at))
+    by-test true h = h
+    by-test false h = (omega arith, λ inside. inside)

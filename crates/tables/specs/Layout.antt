@@ -5,17 +5,24 @@ use Prim.Native.Nat.{ℕ, zero, suc, _+_, _≤_}
 use mathlib.Core.Bool.{Bool, true}
 use mathlib.Core.List.{List}
 use lib.Dec.{ltb, leb}
+use lib.ListN.{length}
 use Rattle.basics.specs.Choice.{pick}
 use Rattle.number.specs.Number.{greatest, numberAt, thenNumber}
 use Rattle.items.specs.Text.{textAt, thenText}
 use Rattle.tables.specs.declared.Run.{Run}
 use Rattle.tables.specs.declared.Run.the-variants.{End, Wrong}
 
--- what is due, and what is due after it: a number that passes a test, a text, or nothing more
+-- what is due, and what is due after it: a number that passes a test, or a text, whose length decides what is due next; the
+-- bytes may end here, and else what follows is due; or nothing more
 pub data Layout : Type 0 where
   number : (ℕ → Bool) → (ℕ → Layout) → Layout
-  text : Layout → Layout
+  sized : (ℕ → Layout) → Layout
+  mayEnd : Layout → Layout
   ended : Layout
+
+-- a text whose length decides nothing
+abbrev pub text : Layout → Layout
+text following = sized (λ size. following)
 
 -- a number with no rule of its own
 abbrev pub any : ℕ → Bool
@@ -44,13 +51,13 @@ unfoldable pub recordsThen : ℕ → Layout → Layout
 recordsThen zero following = following
 recordsThen (suc count) following = recordThen (recordsThen count following)
 
--- "member count, members, record count, local records, and nothing after"
-unfoldable pub tablesLayout : Layout
-tablesLayout = number any (λ members. membersThen members 0 (number any (λ records. recordsThen records ended)))
+-- "member count, members, record count, local records"
+unfoldable pub tablesThen : Layout → Layout
+tablesThen following = number any (λ members. membersThen members 0 (number any (λ records. recordsThen records following)))
 
--- "A case holds, in order: access flags, faulting index, code text, name signature text, .."
+-- "A case holds, in order: access flags, faulting index, code text, name signature text, .., and nothing after."
 unfoldable pub caseLayout : Layout
-caseLayout = number any (λ flags. number any (λ fault. text (text tablesLayout)))
+caseLayout = number any (λ flags. number any (λ fault. text (text (tablesThen ended))))
 
 -- ---- reading by a layout
 
@@ -59,8 +66,9 @@ unfoldable pub runBy : Layout → List ℕ → ℕ → Run
 runBy ended bytes at = End at
 runBy (number right following) bytes at =
     thenNumber (numberAt greatest bytes at) (Wrong at) (λ v next. pick (right v) (runBy (following v) bytes next) (Wrong at))
-runBy (text following) bytes at =
-    thenText (textAt bytes at) (Wrong at) (λ start size. runBy following bytes (start + size))
+runBy (sized following) bytes at =
+    thenText (textAt bytes at) (Wrong at) (λ start size. runBy (following size) bytes (start + size))
+runBy (mayEnd following) bytes at = pick (ltb at (length bytes)) (runBy following bytes at) (End at)
 
 -- what follows a run, or the answer at its first wrong item
 abbrev pub thenRun : {A : Type 0} → Run → (ℕ → A) → (ℕ → A) → A

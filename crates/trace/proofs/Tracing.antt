@@ -29,14 +29,14 @@ module _ (scan depth room : ℕ) where
       (LacksRoom index ≡ traceOf scan depth walked) × Cleared left walked
   lacked (lacks i) index left e = let same : index ≡ i = cc in (ap LacksRoom same, λ l. l)
   lacked (fits (done slots count)) index left e = let z : _≡_ {A = ℕ} 0 1 = cc in absurd (omega arith)
-  lacked (fits (failed count reason)) index left e = let z : _≡_ {A = ℕ} 0 1 = cc in absurd (omega arith)
+  lacked (fits (failed count at reason)) index left e = let z : _≡_ {A = ℕ} 0 1 = cc in absurd (omega arith)
 
   pub failing :
       (walked : Roomed ℕ) (block : ℕ) (left : List ℕ) → Failed block ≡ answerOf walked →
       (Traced scan block Other ≡ traceOf scan depth walked) × Cleared left walked
   failing (lacks i) block left e = let z : _≡_ {A = ℕ} 0 1 = cc in absurd (omega arith)
   failing (fits (done slots count)) block left e = let z : _≡_ {A = ℕ} 0 1 = cc in absurd (omega arith)
-  failing (fits (failed count reason)) block left e =
+  failing (fits (failed count at reason)) block left e =
       let same : block ≡ count = cc in
       (ap (λ (k : ℕ). Traced scan k Other) same, λ l. l)
 
@@ -48,7 +48,7 @@ module _ (scan depth room : ℕ) where
 
   pub finished : (walked : Roomed ℕ) (height block : ℕ) → Done height block ≡ answerOf walked → Finished walked height block
   finished (lacks i) height block e = let z : _≡_ {A = ℕ} 0 1 = cc in absurd (omega arith)
-  finished (fits (failed count reason)) height block e = let z : _≡_ {A = ℕ} 0 1 = cc in absurd (omega arith)
+  finished (fits (failed count at reason)) height block e = let z : _≡_ {A = ℕ} 0 1 = cc in absurd (omega arith)
   finished (fits (done slots count)) height block e =
       let same : block ≡ count = cc in
       let size : height ≡ length slots = cc in

@@ -25,7 +25,7 @@ slotFrom slots depth = pick (ltb depth (length slots)) (unpacked (getD slots (le
 -- load". "Block count: instructions the walk completed".
 abbrev pub traceOf : ℕ → ℕ → Roomed ℕ → Trace
 traceOf scan depth (lacks index) = NoRoom index
-traceOf scan depth (fits (failed block reason)) = Traced scan block Other
+traceOf scan depth (fits (failed block index reason)) = Traced scan block Other
 traceOf scan depth (fits (done slots block)) = Traced scan block (slotFrom slots depth)
 
 -- "0 where there is no leader"

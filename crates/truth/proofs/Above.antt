@@ -7,17 +7,19 @@ use mathlib.Core.Path.{_≡_, refl, _∙_, ap, subst}
 use mathlib.Core.List.{List, [], _∷_, _++_, append-assoc}
 use lib.ListN.{length, take, replicate}
 use Rattle.basics.specs.Bytes.{byteAt}
+use Rattle.basics.specs.Each.{none, one}
+use Rattle.basics.proofs.Each.{each-length, each-take, each-append}
 use Rattle.jvms.specs.Machine.{State, citedAt, localAt, below, topmost, run}
-use Rattle.jvms.specs.Stack.{Local, indexed, numbered, Entry, unlisted, does, eitherOf, loads, stores, increments, throws, Cited, entryOf}
+use Rattle.jvms.specs.Stack.{Local, indexed, numbered, Entry, unlisted, does, eitherOf, loads, stores, increments, throws, Cited, keyAt, entryAt}
 use Rattle.effects.specs.Agreement.{takenBy, Carried, Pushed, localOf, Details}
 use Rattle.effects.specs.Rows.{Row, unmodelled, opaque, aload, aloadOf, carries, keeps, gets, calls}
 use Rattle.walk.specs.Walk.{Push}
-use Rattle.truth.specs.Relation.{Held, none, one, Setting, ownBy, own, Speaks, Given}
+use Rattle.truth.specs.Relation.{Held, Setting, ownBy, own, Speaks, Given}
 use Rattle.truth.proofs.Carried.{held-carried}
-use Rattle.truth.proofs.Held.{same-length, held-take, held-append, held-run}
+use Rattle.truth.proofs.Held.{held-run}
 use Rattle.truth.proofs.Machine.{below-over}
 use Rattle.truth.proofs.Reading.{pushFor}
-use Rattle.truth.proofs.Step.{pushes, Applied}
+use Rattle.walk.proofs.Step.{pushes, Applied}
 
 no-local : {P : Type 0} {l : Local} → [] ≡ l ∷ [] → P
 no-local e = let z : _≡_ {A = ℕ} 0 1 = cc in absurd (omega arith)
@@ -36,10 +38,10 @@ module _ {A Val : Type 0} (s : Setting A Val) where
       Above list stack → Applied (s .marks) pc list takes push slots → stack′ ≡ below takes stack ++ put →
       Held (s .Says) (pushes (s .marks) pc list push) put → Above slots stack′
   moved pc list takes push slots stack stack′ put a went e h =
-      let size : length list ≡ length (a .above) = same-length (a .held) in
+      let size : length list ≡ length (a .above) = each-length (a .held) in
       let kept : Held (s .Says) (take (length list - takes) list) (below takes (a .above)) =
       subst (λ (n : ℕ). Held (s .Says) (take (length list - takes) list) (take (n - takes) (a .above))) size
-      (held-take (length list - takes) (a .held)) in
+      (each-take (length list - takes) (a .held)) in
       let enough : takes ≤ length (a .above) = omega (arith, went .enough) in
       record {
         above = below takes (a .above) ++ put;
@@ -47,7 +49,7 @@ module _ {A Val : Type 0} (s : Setting A Val) where
             ∙ ap (λ (l : List Val). below takes l ++ put) (a .untouched)
             ∙ ap (λ (l : List Val). l ++ put) (below-over takes (s .entering) (a .above) enough)
             ∙ append-assoc (s .entering) (below takes (a .above)) put;
-        held = rw (went .left) (held-append kept h);
+        held = rw (went .left) (each-append kept h);
       }
 
   -- ---- slots that are pushed
@@ -77,15 +79,15 @@ module _ {A Val : Type 0} (s : Setting A Val) where
 
     held-mark :
         (local : ℕ) (l : Local) (put : List Val) → local < 256 → localAt (s .code) (st .pc) l ≡ local →
-        localOf (entryOf (byteAt (s .code) (st .pc))) ≡ l ∷ [] → put ≡ run 1 0 (own s st) →
+        localOf (entryAt (s .code) (st .pc)) ≡ l ∷ [] → put ≡ run 1 0 (own s st) →
         Held (s .Says) (s .marks .mark (st .pc) local ∷ []) put
     held-mark local l put small there e q =
         let holds : own s st 0 ≡ st .locals local =
-        loaded-first (entryOf (byteAt (s .code) (st .pc))) l e ∙ ap (λ (n : ℕ). st .locals n) there in
+        loaded-first (entryAt (s .code) (st .pc)) l e ∙ ap (λ (n : ℕ). st .locals n) there in
         rw (q, holds) (one (speaks .held local small) none)
 
     pub held-pushed :
-        (list : List A) (row : Row) (put : List Val) → Above list (st .stack) → Details row (byteAt (s .code) (st .pc)) →
+        (list : List A) (row : Row) (put : List Val) → Above list (st .stack) → Details row (keyAt (s .code) (st .pc)) →
         takenBy row cited ≤ length list → Pushed row cited (topmost (takenBy row cited) (st .stack)) (own s st) put →
         Held (s .Says) (pushes (s .marks) (st .pc) list (pushFor (s .pool) (s .code) (st .pc) row)) put
     held-pushed list unmodelled put a details enough e = rw e none

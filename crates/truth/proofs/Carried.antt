@@ -8,12 +8,13 @@ use lib.Dec.{T, leb, leb→le}
 use lib.ListN.{length, getD, take, drop}
 use lib.Seq.{drop-cons, getD-drop}
 use Rattle.basics.specs.Choice.{between}
+use Rattle.basics.specs.Each.{none, one}
+use Rattle.basics.proofs.Each.{each-length, each-at}
 use Rattle.basics.proofs.Every.{both-first, both-second}
 use Rattle.jvms.specs.Machine.{topmost}
 use Rattle.effects.specs.Agreement.{within, Carried}
 use Rattle.walk.specs.Walk.{placed}
-use Rattle.truth.specs.Relation.{Held, none, one}
-use Rattle.truth.proofs.Held.{same-length, held-at}
+use Rattle.truth.specs.Relation.{Held}
 use Rattle.truth.proofs.Machine.{topmost-over, topmost-length}
 
 -- a slot by its number from the top, in a list and as a list of one
@@ -47,10 +48,10 @@ module _
       let here : T (between 1 t place) = both-first (between 1 t place) _ u in
       let some : 1 ≤ place = leb→le 1 place (both-first (leb 1 place) _ here) in
       let small : place ≤ t = leb→le place t (both-second (leb 1 place) _ here) in
-      let size : length list ≡ length above = same-length held in
+      let size : length list ≡ length above = each-length held in
       let says : Says (getD list (length list - place) blank) (getD above (length above - place) absent) =
       subst (λ (n : ℕ). Says (getD list (length list - place) blank) (getD above (n - place) absent)) size
-      (held-at held (length list - place) (omega arith) blank absent) in
+      (each-at held (length list - place) (omega arith) blank absent) in
       rw (nth-slot list place blank some (omega arith), nth-taken t place entering above absent small (omega arith))
       (one says (held-places places (both-second (between 1 t place) _ u)))
 

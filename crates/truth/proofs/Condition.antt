@@ -6,9 +6,10 @@ use mathlib.Core.Path.{_≡_, _∙_, sym, ap, subst}
 use mathlib.Core.List.{List, [], _∷_}
 use lib.ListN.{length, getD, take, length-append}
 use lib.Seq.{take-append-seam, getD-append-add}
+use Rattle.basics.proofs.Each.{each-length, each-at}
 use Rattle.jvms.specs.Machine.{Pool, State, target}
-use Rattle.bytecode.specs.Rule.{document-rule}
-use Rattle.leaders.proofs.Declared.{nothing-lands-between}
+use Rattle.bytecode.specs.Rule.{LengthRule, document-rule}
+use Rattle.leaders.proofs.Declared.{nothing-lands-between, nothing-added-between}
 use Rattle.effects.specs.Depth.{depthOf, at}
 use Rattle.effects.specs.Lookup.{Lookup, lookupIn}
 use Rattle.effects.specs.Rows.{rowOf}
@@ -16,18 +17,17 @@ use Rattle.effects.proofs.Rows.{rows-agree}
 use Rattle.walk.specs.Room.{completed, blockWalk}
 use Rattle.cell.specs.Cell.{cellOf}
 use Rattle.walk.specs.Walk.{cells, walk}
-use Rattle.truth.specs.Condition.{Described, Findings, Premises, Condition3}
+use Rattle.truth.specs.Condition.{Described, Findings, PremisesBy, ConditionOver, Condition3}
 use Rattle.truth.specs.Relation.{Setting, Speaks, Given, Translated}
 use Rattle.truth.specs.Translation.{since, HeldWhen, Translates}
 use Rattle.cell.proofs.Laws.{cell-injective, no-load-is-zero}
-use Rattle.truth.proofs.Held.{same-length, held-at}
 use Rattle.truth.proofs.Room.{Fitted, fitted}
 use Rattle.truth.proofs.Slot.{very-slot}
 use Rattle.truth.proofs.Walked.{walk-translates}
 
 -- ---- a report
 
-module _ (f : Findings) (pool : Pool) (p : Premises f pool) where
+module _ {rule : LengthRule} {handlers : List ℕ} (f : Findings) (pool : Pool) (p : PremisesBy rule handlers f pool) where
   abbrev lookup : Lookup
   lookup = lookupIn (f .members) (f .memberCount)
 
@@ -87,7 +87,7 @@ module _ (f : Findings) (pool : Pool) (p : Premises f pool) where
     one-each : length (states (f .count) .stack) ≡ length entering + length (fits .slots)
     one-each =
         ap length (translated .untouched) ∙ length-append entering (translated .above)
-        ∙ ap (λ (n : ℕ). length entering + n) (sym (same-length (translated .held)))
+        ∙ ap (λ (n : ℕ). length entering + n) (sym (each-length (translated .held)))
 
     -- the value above the entering stack that stands for a slot
     value-of :
@@ -106,7 +106,7 @@ module _ (f : Findings) (pool : Pool) (p : Premises f pool) where
           oneEach = one-each;
           holds = λ k b n absent inside small e.
               subst (λ (v : Val). HeldWhen states (f .count) b n v) (value-of k absent)
-              (held-at (translated .held) k inside 0 absent b n small e);
+              (each-at (translated .held) k inside 0 absent b n small e);
         }
 
     -- a depth from the top of the stack is one from the top of the slots
@@ -123,12 +123,18 @@ module _ (f : Findings) (pool : Pool) (p : Premises f pool) where
         very-slot lookup pool (f .code) (p .bytes) st told depth absent (rw (translated .reached) e) (omega (arith, size))
         ∙ ap (λ (k : ℕ). getD (st .stack) k absent ∷ []) there
 
-pub condition-3 : Condition3
-condition-3 f pool p =
+pub condition-over : ConditionOver
+condition-over rule handlers f pool p =
     record {
       translated = λ Val opaque entering locals. rw (slots-are f pool p) (translates f pool p Val opaque entering locals);
       verySlot = very f pool p;
       nothingLands = λ pc x reached lands above below.
-          nothing-lands-between document-rule [] (f .code) (p .bytes) (f .fault) (f .leader) (p .scan) (p .inside)
-          (p .measured) pc x reached lands (omega arith) below;
+          nothing-lands-between rule handlers (f .code) (p .bytes) (f .fault) (f .leader) (p .scan) (p .inside) (p .measured)
+          pc x reached lands (omega arith) below;
+      noHandler = λ x listed above below.
+          nothing-added-between rule handlers (f .code) (p .bytes) (f .fault) (f .leader) (p .scan) (p .measured) x listed
+          (omega arith) below;
     }
+
+pub condition-3 : Condition3
+condition-3 = condition-over document-rule []

@@ -9,6 +9,5 @@ pub mod Machine
 pub mod Reading
 pub mod Room
 pub mod Slot
-pub mod Step
 pub mod Turn
 pub mod Walked

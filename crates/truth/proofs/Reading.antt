@@ -9,7 +9,7 @@ use lib.ListN.{length}
 use Rattle.basics.specs.Bytes.{byteAt, u16At}
 use Rattle.basics.specs.Choice.{pick, between}
 use Rattle.jvms.specs.Machine.{Pool, citedAt}
-use Rattle.jvms.specs.Stack.{Cited}
+use Rattle.jvms.specs.Stack.{Cited, keyAt}
 use Rattle.descriptor.specs.Readers.{parameters, returnSlots, fieldSlots}
 use Rattle.descriptor.specs.declared.Params.the-variants.{Read}
 use Rattle.descriptor.specs.declared.Slots.the-variants.{Slots as SlotsOf}
@@ -20,7 +20,7 @@ use Rattle.effects.specs.Lookup.{Known, missing, known, Lookup}
 use Rattle.effects.specs.Rows.{Row, unmodelled, opaque, aload, aloadOf, carries, keeps, gets, calls}
 use Rattle.walk.specs.Walk.{notModelled, cut, Marks, Push, blanks, load, carried, unread, Effect, fails, does, getting, calling, effectBy, made, applied}
 use Rattle.truth.specs.Condition.{Described}
-use Rattle.truth.proofs.Step.{refused-not-made}
+use Rattle.walk.proofs.Step.{refused-not-made}
 
 -- what a row pushes
 abbrev pub pushFor : Pool → List ℕ → ℕ → Row → Push
@@ -96,7 +96,7 @@ module _ (lookup : Lookup) (pool : Pool) (code : List ℕ) (pc : ℕ) (told : De
 
     -- the effect of a row that is completed
     pub effect-read :
-        (row : Row) → Details row (byteAt code pc) → Makes (effectBy lookup code pc row) →
+        (row : Row) → Details row (keyAt code pc) → Makes (effectBy lookup code pc row) →
         Makes (does (takenBy row cited) (pushFor pool code pc row))
     effect-read unmodelled details e = refused-not-made e
     effect-read (opaque taken given) details e = e

@@ -52,4 +52,4 @@ fitted room completed walked height count e = by-walk walked refl (ap answerOf (
           shows = ap (λ (x : Roomed ℕ). take height (cellsOf room x)) (whole ∙ ap fits is)
               ∙ take-at slots (replicate (room - length slots) 0) height (sym tall);
         }
-    by-walk (failed n reason) is q = let z : _≡_ {A = ℕ} 0 1 = cc in absurd (omega arith)
+    by-walk (failed n index reason) is q = let z : _≡_ {A = ℕ} 0 1 = cc in absurd (omega arith)

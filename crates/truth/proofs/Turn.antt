@@ -1,17 +1,18 @@
 -- One instruction of the walk and of the machine: where it goes, and that the slots still say the truth.
 -- Assumes nothing.
-use Prim.Native.Nat.{ℕ, _+_, _-_, _≤_}
+use Prim.Native.Nat.{ℕ, _+_, _-_, _≤_, _<_}
 use native.Mathlib.Omega.{arith}
 use mathlib.Core.Path.{_≡_, refl, _∙_, sym, ap}
 use mathlib.Core.List.{List, [], _∷_, _++_, append-nil}
 use lib.Dec.{T}
 use lib.ListN.{length, take, length-append}
 use lib.Seq.{take-all}
-use Rattle.basics.specs.Bytes.{byteAt}
+use Rattle.basics.proofs.Each.{each-length}
 use Rattle.jvms.specs.Extent.{Extent, takes, extentAt}
 use Rattle.jvms.specs.Machine.{State, citedAt, sizeOf, below, topmost, replaced, results, next}
-use Rattle.jvms.specs.Stack.{objectref, reference, _⇒_, does, Cited, Form, Entry, entryOf}
-use Rattle.fixed.specs.Fixed.{fixedLength}
+use Rattle.jvms.specs.Stack.{objectref, reference, _⇒_, does, Cited, Form, Entry, entryOf, keyAt, keyCount}
+use Rattle.jvms.proofs.Keys.{key-below}
+use Rattle.fixed.specs.Fixed.{sizeAt}
 use Rattle.bytecode.specs.Length.{lengthOf}
 use Rattle.bytecode.specs.declared.Measure.the-variants.{Length}
 use Rattle.bytecode.proofs.Measuring.{fits}
@@ -22,10 +23,9 @@ use Rattle.walk.specs.Walk.{blanks, effectBy, made, applied}
 use Rattle.truth.specs.Condition.{InBlock, after, Described}
 use Rattle.truth.specs.Relation.{Setting, own, Speaks, Given}
 use Rattle.truth.proofs.Above.{Above, moved, held-pushed}
-use Rattle.truth.proofs.Held.{same-length}
 use Rattle.truth.proofs.Machine.{topmost-length, checkcast-keeps, performed, acted}
 use Rattle.truth.proofs.Reading.{pushFor, effect-read}
-use Rattle.truth.proofs.Step.{refused-not-made, applied-is, Stepped}
+use Rattle.walk.proofs.Step.{refused-not-made, applied-is, Stepped}
 
 -- a row has an effect, or is that of `checkcast`, or is not modelled
 pub data Sort : Row → Type 0 where
@@ -46,7 +46,13 @@ sort-of (calls taken) = effective tt tt
 module _
     {A Val : Type 0} (s : Setting A Val) (given : Given s) (st : State Val) (list : List A) (a : Above s list (st .stack)) where
   abbrev op : ℕ
-  op = byteAt (s .code) (st .pc)
+  op = keyAt (s .code) (st .pc)
+
+  abbrev size : ℕ
+  size = sizeAt (s .code) (st .pc)
+
+  known : op < keyCount
+  known = key-below (s .code) (given .bytes) (st .pc)
 
   abbrev cited : Cited
   cited = citedAt (s .pool) (s .code) (st .pc)
@@ -63,23 +69,23 @@ module _
   -- ---- where it goes
 
   module _ (modelled : T (isModelled (s .rows op))) where
-    extent : extentAt (s .code) (st .pc) ≡ takes (fixedLength op)
-    extent = given .agrees .sized op (given .bytes (st .pc)) modelled (s .code) (st .pc) refl
+    extent : extentAt (s .code) (st .pc) ≡ takes size
+    extent = given .agrees .sized (s .code) (st .pc) known modelled
 
-    on-by-size : after-it .pc ≡ st .pc + sizeOf (extentAt (s .code) (st .pc)) → after-it .pc ≡ st .pc + fixedLength op
+    on-by-size : after-it .pc ≡ st .pc + sizeOf (extentAt (s .code) (st .pc)) → after-it .pc ≡ st .pc + size
     on-by-size e = e ∙ ap (λ (x : Extent). st .pc + sizeOf x) extent
 
-    measured : st .pc + fixedLength op ≤ s .fault → lengthOf (s .code) (st .pc) ≡ Length (fixedLength op)
+    measured : st .pc + size ≤ s .fault → lengthOf (s .code) (st .pc) ≡ Length size
     measured notPast =
-        jvms-length (fixedLength op) (s .code) (given .bytes) (st .pc) extent
-        ∙ sym (fits (s .code) (st .pc) (fixedLength op) (omega (arith, given .inside)))
+        jvms-length size (s .code) (given .bytes) (st .pc) extent
+        ∙ sym (fits (s .code) (st .pc) size (omega (arith, given .inside)))
 
   -- ---- what it leaves
 
   -- the slots are no more than the stack
   reach : (n : ℕ) → n ≤ length list → n ≤ length (st .stack)
   reach n h =
-      omega (arith, ap length (a .untouched), length-append (s .entering) (a .above), same-length (a .held))
+      omega (arith, ap length (a .untouched), length-append (s .entering) (a .above), each-length (a .held))
 
   -- what a row says of the stack
   record Put (row : Row) : Type 0 where
@@ -134,7 +140,7 @@ module _
       turns :
           T (isModelled (s .rows op)) → T (hasForm (formsOf (entryOf op))) → Above s slots (after-it .stack) → Turned next slots
       turns modelled some leaves =
-          let notPast : st .pc + fixedLength op ≤ s .fault = omega (arith, step .lands, step .notPast) in
+          let notPast : st .pc + size ≤ s .fault = omega (arith, step .lands, step .notPast) in
           record {
             there = on-by-size modelled (acted s st (entryOf op) some .pc) ∙ sym (step .lands);
             inBlock = rw (step .lands) (after here (measured modelled notPast));
@@ -143,10 +149,10 @@ module _
 
       by-sort : (row : Row) → s .rows op ≡ row → Sort row → Turned next slots
       by-sort row e (effective some modelled) =
-          let agrees : EffectAgrees op (s .rows op) = given .agrees .effect op (given .bytes (st .pc)) (rw e some) in
+          let agrees : EffectAgrees op (s .rows op) = given .agrees .effect op known (rw e some) in
           turns (rw e modelled) (agrees .some) (effect-moves (s .rows op) agrees slots (step .makes))
       by-sort row e keeping =
-          let entry = given .agrees .kept op (given .bytes (st .pc)) e in
+          let entry = given .agrees .kept op known e in
           turns (rw e tt) (rw entry tt) (keeps-all slots entry (rw e at (step .makes)))
       by-sort row e missing = refused-not-made (rw e at (step .makes))
 

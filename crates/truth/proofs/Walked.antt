@@ -11,13 +11,14 @@ use mathlib.Core.List.{List, [], append-nil}
 use lib.Dec.{eqb, ltb}
 use borrow.Author.Tests.{eqb-true, ltb-true}
 use Rattle.basics.specs.Choice.{pick}
+use Rattle.basics.specs.Each.{none}
 use Rattle.jvms.specs.Machine.{State, next, ran}
 use Rattle.walk.specs.Walk.{overshot, Outcome, stops, goes, passes, done, failed, step, ended, after, walkFrom, walk}
 use Rattle.truth.specs.Condition.{InBlock, first}
-use Rattle.truth.specs.Relation.{none, Setting, machine, Speaks, Given, Translated, WalkTranslates}
+use Rattle.truth.specs.Relation.{Setting, machine, Speaks, Given, Translated, WalkTranslates}
 use Rattle.truth.proofs.Above.{Above}
 use Rattle.truth.proofs.Machine.{ran-next}
-use Rattle.truth.proofs.Step.{stepped}
+use Rattle.walk.proofs.Step.{stepped}
 use Rattle.truth.proofs.Turn.{turned}
 
 module _ {A Val : Type 0} (s : Setting A Val) (slots : List A) (count : ℕ) where
@@ -49,13 +50,13 @@ module _ {A Val : Type 0} (s : Setting A Val) (slots : List A) (count : ℕ) whe
   ended-is pc list n e = by-test (eqb pc (s .fault)) refl e
     where
       by-test :
-          (b : Bool) → eqb pc (s .fault) ≡ b → pick b (done list n) (failed n overshot) ≡ done slots count → Ended pc list n
+          (b : Bool) → eqb pc (s .fault) ≡ b → pick b (done list n) (failed n pc overshot) ≡ done slots count → Ended pc list n
       by-test true h q = record { there = eqb-true pc (s .fault) h; left = cc; total = cc }
       by-test false h q = let z : _≡_ {A = ℕ} 0 1 = cc in absurd (omega arith)
 
   continued-is :
       (turns pc : ℕ) (list : List A) (n : ℕ) → pc < s .fault → (x : Outcome A) → stepAt pc list ≡ x →
-      after (s .marks) (s .rows) (s .lookup) (s .code) (s .fault) x n
+      after (s .marks) (s .rows) (s .lookup) (s .code) (s .fault) x pc n
       (λ onward more. walkFrom (s .marks) (s .rows) (s .lookup) (s .code) (s .fault) turns onward more (n + 1))
       ≡ done slots count →
       Continued turns pc list n
@@ -76,7 +77,7 @@ module _ {A Val : Type 0} (s : Setting A Val) (slots : List A) (count : ℕ) whe
       by-test :
           (b : Bool) → ltb pc (s .fault) ≡ b →
           pick b
-          (after (s .marks) (s .rows) (s .lookup) (s .code) (s .fault) (stepAt pc list) n
+          (after (s .marks) (s .rows) (s .lookup) (s .code) (s .fault) (stepAt pc list) pc n
           (λ onward more. walkFrom (s .marks) (s .rows) (s .lookup) (s .code) (s .fault) turns onward more (n + 1)))
           (ended (s .marks) (s .rows) (s .lookup) (s .code) (s .fault) pc list n)
           ≡ done slots count →

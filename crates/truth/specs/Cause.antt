@@ -5,24 +5,32 @@ use mathlib.Core.Path.{_≡_}
 use mathlib.Core.List.{List, [], _∷_}
 use lib.ListN.{length, getD}
 use Rattle.jvms.specs.Machine.{Pool, target}
+use Rattle.bytecode.specs.Rule.{LengthRule}
 use Rattle.effects.specs.Depth.{depthOf, at}
 use Rattle.effects.specs.Lookup.{lookupIn}
 use Rattle.walk.specs.Room.{blockWalk, cellsOf, fits}
 use Rattle.cell.specs.Cell.{cellOf}
 use Rattle.walk.specs.Walk.{done}
-use Rattle.truth.specs.Condition.{Findings, Premises}
+use Rattle.truth.specs.Condition.{Findings, PremisesBy, Premises}
 use Rattle.truth.specs.Translation.{since, HeldWhen, TrueTranslation}
 
 -- Where the slot at the depth is a load of local n at index b, the value that the faulting instruction would dereference is what
 -- n held when b ran.
-abbrev pub CauseTrue : Type 1
-CauseTrue =
-    (f : Findings) (pool : Pool) → Premises f pool → (depth b n : ℕ) →
-    depthOf (lookupIn (f .members) (f .memberCount)) (f .code) (f .fault) ≡ at depth → depth < f .height → n < 256 →
+abbrev pub CauseNames : Findings → Pool → Type 1
+CauseNames f pool =
+    (depth b n : ℕ) → depthOf (lookupIn (f .members) (f .memberCount)) (f .code) (f .fault) ≡ at depth → depth < f .height → n < 256 →
     getD (f .stack) (f .height - 1 - depth) 0 ≡ cellOf b n →
     (Val : Type 0) (opaque : ℕ → ℕ → Val) (entering : List Val) (locals : ℕ → Val) →
     (v : Val) × (target pool (f .code) (since pool (f .code) opaque (f .leader) entering locals (f .count)) ≡ v ∷ [])
     × HeldWhen (since pool (f .code) opaque (f .leader) entering locals) (f .count) b n v
+
+-- over any rule and any handlers, and as document 01 has it
+abbrev pub CauseTrueOver : Type 1
+CauseTrueOver =
+    (rule : LengthRule) (handlers : List ℕ) (f : Findings) (pool : Pool) → PremisesBy rule handlers f pool → CauseNames f pool
+
+abbrev pub CauseTrue : Type 1
+CauseTrue = (f : Findings) (pool : Pool) → Premises f pool → CauseNames f pool
 
 -- ---- force
 

@@ -1,5 +1,6 @@
--- Condition 3 of the tender, whole. proofs/Condition.antt has its proof.
--- It does not cover handler entries: an exception handler that begins inside the block enters it too (document 02, request 8).
+-- Condition 3 of the tender, whole, over any length rule and any list of handlers; document 01's is an instance (`Condition3`).
+-- proofs/Condition.antt has the proof. Document 01's lists no handlers, so it does not cover their entries: an exception handler
+-- that begins inside the block enters it too (document 02, request 8).
 -- Assumes nothing.
 use Prim.Native.Nat.{ℕ, _+_, _-_, _≤_, _<_}
 use mathlib.Core.Path.{_≡_}
@@ -14,7 +15,7 @@ use Rattle.jvms.specs.Descriptor.{render, renderMethod, WellFormed, WellFormedM
 use Rattle.jvms.specs.Machine.{Pool, target}
 use Rattle.bytecode.specs.Length.{lengthOf}
 use Rattle.bytecode.specs.declared.Measure.the-variants.{Length}
-use Rattle.bytecode.specs.Rule.{document-rule}
+use Rattle.bytecode.specs.Rule.{LengthRule, document-rule}
 use Rattle.leader.specs.Scan.{blockLeader}
 use Rattle.leader.specs.declared.Scan.the-variants.{Leader}
 use Rattle.leaders.specs.Leader.{Reached}
@@ -52,36 +53,54 @@ pub record Findings : Type 0 where
   -- the lent stack as the walk leaves it
   pub stack : List ℕ
 
--- pool: the trees whose writings are the cited descriptors
-pub record Premises (f : Findings) (pool : Pool) : Type 0 where
-  pub bytes : AreBytes (f .code)
-  -- "the code is measured to its end"
-  pub scan : ℕ
-  pub measured : blockLeader lengthOf [] (f .code) (f .fault) ≡ Leader (f .leader) scan
-  -- "the fault lies in it"
-  pub inside : f .fault < length (f .code)
-  -- "the block walk succeeds"
-  pub room : ℕ
-  pub walked : answerOf (blockWalk (f .code) (f .members) (f .memberCount) (f .leader) (f .fault) room) ≡ Done (f .height) (f .count)
-  pub left : f .stack ≡ cellsOf room (blockWalk (f .code) (f .members) (f .memberCount) (f .leader) (f .fault) room)
-  -- "the descriptors of walk and fault are well formed with one closing parenthesis per method descriptor"
-  pub described :
-      (pc : ℕ) → InBlock (f .code) (f .leader) pc → pc ≤ f .fault →
-      Described (lookupIn (f .members) (f .memberCount)) pool (f .code) pc
+-- rule: how the scan measures. handlers: indexes that are listed as entries, each a leader.
+module _ (rule : LengthRule) (handlers : List ℕ) where
+  -- pool: the trees whose writings are the cited descriptors
+  pub record PremisesBy (f : Findings) (pool : Pool) : Type 0 where
+    pub bytes : AreBytes (f .code)
+    -- "the code is measured to its end"
+    pub scan : ℕ
+    pub measured : blockLeader (rule .measure) handlers (f .code) (f .fault) ≡ Leader (f .leader) scan
+    -- "the fault lies in it"
+    pub inside : f .fault < length (f .code)
+    -- "the block walk succeeds"
+    pub room : ℕ
+    pub walked : answerOf (blockWalk (f .code) (f .members) (f .memberCount) (f .leader) (f .fault) room) ≡ Done (f .height) (f .count)
+    pub left : f .stack ≡ cellsOf room (blockWalk (f .code) (f .members) (f .memberCount) (f .leader) (f .fault) room)
+    -- "the descriptors of walk and fault are well formed with one closing parenthesis per method descriptor"
+    pub described :
+        (pc : ℕ) → InBlock (f .code) (f .leader) pc → pc ≤ f .fault →
+        Described (lookupIn (f .members) (f .memberCount)) pool (f .code) pc
 
-pub record Concluded (f : Findings) (pool : Pool) : Type 1 where
-  -- "the walk's slot list is a true translation of the block"
-  pub translated : TrueTranslation (f .code) pool (f .leader) (f .fault) (take (f .height) (f .stack)) (f .count)
-  -- "A cause is drawn from the very slot that the faulting instruction would dereference."
-  pub verySlot :
-      (Val : Type 0) (opaque : ℕ → ℕ → Val) (entering : List Val) (locals : ℕ → Val) (absent : Val) (depth : ℕ) →
-      depthOf (lookupIn (f .members) (f .memberCount)) (f .code) (f .fault) ≡ at depth → depth < f .height →
-      target pool (f .code) (since pool (f .code) opaque (f .leader) entering locals (f .count))
-      ≡ getD (since pool (f .code) opaque (f .leader) entering locals (f .count) .stack)
-      (length entering + (f .height - 1 - depth)) absent ∷ []
-  -- "No scanned branch or switch lands after the leader and at or before the fault."
-  pub nothingLands :
-      (pc x : ℕ) → Reached document-rule (f .code) pc → x ∈ landingsAt (f .code) pc → f .leader < x → x ≤ f .fault → ⊥
+  pub record ConcludedBy (f : Findings) (pool : Pool) : Type 1 where
+    -- "the walk's slot list is a true translation of the block"
+    pub translated : TrueTranslation (f .code) pool (f .leader) (f .fault) (take (f .height) (f .stack)) (f .count)
+    -- "A cause is drawn from the very slot that the faulting instruction would dereference."
+    pub verySlot :
+        (Val : Type 0) (opaque : ℕ → ℕ → Val) (entering : List Val) (locals : ℕ → Val) (absent : Val) (depth : ℕ) →
+        depthOf (lookupIn (f .members) (f .memberCount)) (f .code) (f .fault) ≡ at depth → depth < f .height →
+        target pool (f .code) (since pool (f .code) opaque (f .leader) entering locals (f .count))
+        ≡ getD (since pool (f .code) opaque (f .leader) entering locals (f .count) .stack)
+        (length entering + (f .height - 1 - depth)) absent ∷ []
+    -- "No scanned branch or switch lands after the leader and at or before the fault."
+    pub nothingLands :
+        (pc x : ℕ) → Reached rule (f .code) pc → x ∈ landingsAt (f .code) pc → f .leader < x → x ≤ f .fault → ⊥
+    -- and no listed handler begins there
+    pub noHandler : (x : ℕ) → x ∈ handlers → f .leader < x → x ≤ f .fault → ⊥
+
+-- over any rule and any handlers
+abbrev pub ConditionOver : Type 1
+ConditionOver =
+    (rule : LengthRule) (handlers : List ℕ) (f : Findings) (pool : Pool) → PremisesBy rule handlers f pool →
+    ConcludedBy rule handlers f pool
+
+-- ---- document 01's condition: its own lengths, and no handler
+
+abbrev pub Premises : Findings → Pool → Type 0
+Premises f pool = PremisesBy document-rule [] f pool
+
+abbrev pub Concluded : Findings → Pool → Type 1
+Concluded f pool = ConcludedBy document-rule [] f pool
 
 abbrev pub Condition3 : Type 1
 Condition3 = (f : Findings) (pool : Pool) → Premises f pool → Concluded f pool

@@ -3,11 +3,12 @@
 -- Assumes nothing.
 use Prim.Native.Nat.{ℕ, _+_, _≤_, _<_}
 use mathlib.Core.Path.{_≡_}
-use mathlib.Core.List.{List, [], _∷_, _++_}
+use mathlib.Core.List.{List, _++_}
 use lib.ListN.{length}
-use Rattle.basics.specs.Bytes.{byteAt, AreBytes}
+use Rattle.basics.specs.Bytes.{AreBytes}
+use Rattle.basics.specs.Each.{Each}
 use Rattle.jvms.specs.Machine.{Pool, State, localAt}
-use Rattle.jvms.specs.Stack.{Entry, unlisted, does, eitherOf, loads, stores, increments, throws, entryOf}
+use Rattle.jvms.specs.Stack.{Entry, unlisted, does, eitherOf, loads, stores, increments, throws, entryAt}
 use Rattle.effects.specs.Agreement.{Agreeing}
 use Rattle.effects.specs.Lookup.{Lookup}
 use Rattle.effects.specs.Rows.{Row}
@@ -16,11 +17,8 @@ use Rattle.truth.specs.Condition.{InBlock, Described}
 use Rattle.truth.specs.Translation.{since}
 
 -- one value for each slot, and what each slot says of its value is true
-pub data Held {A Val : Type 0} (Says : A → Val → Type 0) : List A → List Val → Type 0 where
-  none : Held Says [] []
-  one :
-      {a : A} {v : Val} {slots : List A} {values : List Val} →
-      Says a v → Held Says slots values → Held Says (a ∷ slots) (v ∷ values)
+abbrev pub Held : {A Val : Type 0} → (A → Val → Type 0) → List A → List Val → Type 0
+Held Says slots values = Each Says slots values
 
 -- a block, how its walk writes slots, and a machine that runs it
 pub record Setting (A Val : Type 0) : Type 1 where
@@ -52,7 +50,7 @@ module _ {A Val : Type 0} (s : Setting A Val) where
   ownBy st (throws os) = s .opaque (st .pc)
 
   abbrev pub own : State Val → ℕ → Val
-  own st = ownBy st (entryOf (byteAt (s .code) (st .pc)))
+  own st = ownBy st (entryAt (s .code) (st .pc))
 
   -- what the slots that are written here say is true: of what the instruction makes, and of what a local holds
   pub record Speaks (st : State Val) : Type 0 where

@@ -9,4 +9,4 @@ use Rattle.walk.specs.Worked.{Worked}
 
 pub worked : Worked
 unfolding rowOf formatOf fixedLength step walkFrom walk
-worked = record { loads = refl; others = refl; results = refl; carries = refl }
+worked = record { loads = refl; others = refl; results = refl; carries = refl; unmodelled = refl; passing = refl }

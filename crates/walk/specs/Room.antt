@@ -58,7 +58,7 @@ blockWalk code members count leader fault room = blockWalkBy rowOf code members 
 abbrev pub answerOf : Roomed ℕ → Walk
 answerOf (lacks index) = NoRoom index
 answerOf (fits (done slots count)) = Done (length slots) count
-answerOf (fits (failed count reason)) = Failed count
+answerOf (fits (failed count index reason)) = Failed count
 
 -- cells that show a slot list
 abbrev pub shown : ℕ → List ℕ → List ℕ
@@ -68,7 +68,7 @@ shown room slots = slots ++ replicate (room - length slots) 0
 abbrev pub cellsOf : ℕ → Roomed ℕ → List ℕ
 cellsOf room (lacks index) = replicate room 0
 cellsOf room (fits (done slots count)) = shown room slots
-cellsOf room (fits (failed count reason)) = replicate room 0
+cellsOf room (fits (failed count index reason)) = replicate room 0
 
 -- what a walk over the cells of a lent stack answers, and the cells that it leaves there
 pub record Walks (code members : List ℕ) (count leader fault : ℕ) (stack : List ℕ) (answer : Walk) (left : List ℕ) : Type 0 where

@@ -8,7 +8,8 @@ use lib.Dec.{eqb, leb, ltb}
 use lib.ListN.{length, take, drop, replicate}
 use Rattle.basics.specs.Bytes.{byteAt, u16At}
 use Rattle.basics.specs.Choice.{pick}
-use Rattle.fixed.specs.Fixed.{fixedLength}
+use Rattle.jvms.specs.Stack.{keyAt}
+use Rattle.fixed.specs.Fixed.{sizeAt}
 use Rattle.cell.specs.Cell.{cellOf, hasCell}
 use Rattle.descriptor.specs.Readers.{parameters, returnSlots, fieldSlots}
 use Rattle.descriptor.specs.declared.Params.{Params}
@@ -116,34 +117,39 @@ landed fault next (made slots) = pick (leb next fault) (goes next slots) (passes
 
 -- ---- the walk
 
--- the slot list, bottom first, and the instructions completed; or these and why it fails
+-- the slot list, bottom first, and the instructions completed; or these, the index of the instruction that it fails at, and why
 pub data Walked (A : Type 0) : Type 0 where
   done : List A → ℕ → Walked A
-  failed : ℕ → Reason → Walked A
+  failed : ℕ → ℕ → Reason → Walked A
+
+-- "Block count: instructions the walk completed"
+abbrev pub countOf : {A : Type 0} → Walked A → ℕ
+countOf (done slots count) = count
+countOf (failed count index reason) = count
 
 module _ {A : Type 0} (marks : Marks A) (rows : ℕ → Row) (lookup : Lookup) (code : List ℕ) (fault : ℕ) where
   -- "an opcode past the code's end fails"
   unfoldable pub step : ℕ → List A → Outcome A
   step pc slots =
       pick (ltb pc (length code))
-      (landed fault (pc + fixedLength (byteAt code pc)) (applied marks pc (effectBy lookup code pc (rows (byteAt code pc))) slots))
+      (landed fault (pc + sizeAt code pc) (applied marks pc (effectBy lookup code pc (rows (keyAt code pc))) slots))
       (stops pastEnd)
 
   -- "until the fault is reached exactly; passing it fails"
   abbrev pub ended : ℕ → List A → ℕ → Walked A
-  ended pc slots count = pick (eqb pc fault) (done slots count) (failed count overshot)
+  ended pc slots count = pick (eqb pc fault) (done slots count) (failed count pc overshot)
 
   -- "An instruction is completed once its effect is applied, even if it passes the fault."
-  abbrev pub after : Outcome A → ℕ → (ℕ → List A → Walked A) → Walked A
-  after (stops reason) count following = failed count reason
-  after (goes next slots) count following = following next slots
-  after (passes slots) count following = failed (count + 1) overshot
+  abbrev pub after : Outcome A → ℕ → ℕ → (ℕ → List A → Walked A) → Walked A
+  after (stops reason) pc count following = failed count pc reason
+  after (goes next slots) pc count following = following next slots
+  after (passes slots) pc count following = failed (count + 1) pc overshot
 
   -- from an index with a list and so many instructions completed; an instruction has a byte, so fault - pc turns are enough
   unfoldable pub walkFrom : ℕ → ℕ → List A → ℕ → Walked A
   walkFrom zero pc slots count = ended pc slots count
   walkFrom (suc turns) pc slots count =
-      pick (ltb pc fault) (after (step pc slots) count (λ next list. walkFrom turns next list (count + 1))) (ended pc slots count)
+      pick (ltb pc fault) (after (step pc slots) pc count (λ next list. walkFrom turns next list (count + 1))) (ended pc slots count)
 
   -- "From the leader, empty list"
   unfoldable pub walk : ℕ → Walked A

@@ -4,7 +4,7 @@ use native.Mathlib.Omega.{arith}
 use mathlib.Core.Path.{_≡_, _∙_, ap}
 use lib.ListN.{take}
 use borrow.Author.Needs.{needs}
-use Rattle.basics.specs.Bytes.{byteAt}
+use Rattle.jvms.specs.Stack.{keyAt}
 use Rattle.effects.specs.Lookup.{Lookup, lookupIn}
 use Rattle.effects.specs.Rows.{rowOf}
 use Rattle.walk.specs.Walk.{effectBy}
@@ -31,12 +31,12 @@ known :
     (c : tie.After-effect-of) →
     let a = c .before .before .before .before .before .before .before .args in
     effectFrom (c .effect-of .result)
-    ≡ bare (effectBy (lookupIn (a .members .now) (a .count)) (a .code .now) (a .pc) (rowOf (byteAt (a .code .now) (a .pc))))
+    ≡ bare (effectBy (lookupIn (a .members .now) (a .count)) (a .code .now) (a .pc) (rowOf (keyAt (a .code .now) (a .pc))))
 known c =
     let start = c .before .before .before .before .before .before .before in
     let a = start .args in
     c .effect-of .ensures
-    ∙ ap (λ (look : Lookup). bare (effectBy look (a .code .now) (a .pc) (rowOf (byteAt (a .code .now) (a .pc)))))
+    ∙ ap (λ (look : Lookup). bare (effectBy look (a .code .now) (a .pc) (rowOf (keyAt (a .code .now) (a .pc)))))
     (looks-alike (a .members .now) (a .count) (a .table .now) (start .pre .1 .0))
 
 fixed-by-requires : tie.Need-fixed-by-requires

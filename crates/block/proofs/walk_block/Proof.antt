@@ -8,8 +8,8 @@ use lib.Seq.{length-take-le}
 use borrow.Author.Needs.{needs}
 use Rattle.basics.specs.Bytes.{AreBytes}
 use Rattle.effects.specs.Rows.{rowOf}
+use Rattle.effects.proofs.Rows.{rows-sized}
 use Rattle.block.proofs.Looping as looping
-use Rattle.block.proofs.Walking.{row-sized}
 use Rattle.block.proofs.walk_block.Statement.{statement}
 use Rattle.block.proofs.walk_block.Tie as tie
 
@@ -144,7 +144,7 @@ loop-less c =
     let a = start .args in
     let bytes : AreBytes (a .code .now) = λ i. first .before .before .before .before .before .shared-slice-known .given i .fits in
     let on = looping.up rowOf (a .code .now) (a .members .now) (a .count) (a .leader) (a .fault) (length (first .clear .last .0))
-    (at .stack) (at .pc) (at .height) (at .completed) (at .inv) row-sized bytes (turn .before .before .before .loop-test .taken) _ _ _
+    (at .stack) (at .pc) (at .height) (at .completed) (at .inv) rows-sized bytes (turn .before .before .before .loop-test .taken) _ _ _
     (rw (c .before .next .given .1) at (turn .step-at .ensures)) in
     omega (arith, on, turn .before .before .before .loop-test .taken)
 
@@ -157,7 +157,7 @@ loop-again c =
     let a = start .args in
     let bytes : AreBytes (a .code .now) = λ i. first .before .before .before .before .before .shared-slice-known .given i .fits in
     looping.again rowOf (a .code .now) (a .members .now) (a .count) (a .leader) (a .fault) (length (first .clear .last .0))
-    (at .stack) (at .pc) (at .height) (at .completed) (at .inv) row-sized bytes (turn .before .before .before .loop-test .taken) _ _ _
+    (at .stack) (at .pc) (at .height) (at .completed) (at .inv) rows-sized bytes (turn .before .before .before .loop-test .taken) _ _ _
     (rw (c .before .next .given .1) at (turn .step-at .ensures))
 
 same-length-4 : tie.Need-same-length-4 Inv-loop μ-loop

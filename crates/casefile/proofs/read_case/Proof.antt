@@ -107,17 +107,17 @@ add-read-tables c = omega (arith, rw (c .before .signature .given .1) at (c .bef
 read-tables-requires : tie.Need-read-tables-requires
 read-tables-requires c κs = search needs
 
-enum-known-tables : tie.Need-enum-known-tables
-enum-known-tables c = search needs
+enum-known-runs : tie.Need-enum-known-runs
+enum-known-runs c = search needs
 
-enum-known-wrong : tie.Need-enum-known-wrong
-enum-known-wrong c = search needs
+enum-known-runs-2 : tie.Need-enum-known-runs-2
+enum-known-runs-2 c = search needs
 
 returns-6 : tie.Need-returns-6
 unfolding caseOf placesIn
 returns-6 c =
-    let after-tables = c .before in
-    let after-read-tables = after-tables .before .before in
+    let after-runs2 = c .before in
+    let after-read-tables = after-runs2 .before .before in
     let after-signature = after-read-tables .before .before in
     let after-read-text2 = after-signature .before .before in
     let after-code = after-read-text2 .before .before in
@@ -131,14 +131,14 @@ returns-6 c =
     let fault-is = sym (after-case-number2 .case-number2 .ensures .0) ∙ after-fault .fault .given .1 in
     let code-is = sym (after-read-text .read-text .ensures .0) ∙ after-code .code .given .1 in
     let signature-is = sym (after-read-text2 .read-text2 .ensures .0) ∙ after-signature .signature .given .1 in
-    let tables-is = sym (after-read-tables .read-tables .ensures) ∙ after-tables .tables .given .1 in
-    sym (rw (le-ltb _ _ (after-if1 .if1 .left), flags-is, fault-is, code-is, signature-is, tables-is))
+    let runs2-is = sym (after-read-tables .read-tables .ensures) ∙ after-runs2 .runs2 .given .1 in
+    sym (rw (le-ltb _ _ (after-if1 .if1 .left), flags-is, fault-is, code-is, signature-is, runs2-is))
 
 returns-7 : tie.Need-returns-7
 unfolding caseOf placesIn
 returns-7 c =
-    let after-wrong = c .before in
-    let after-read-tables = after-wrong .before .before in
+    let after-runs = c .before .before in
+    let after-read-tables = after-runs .before .before in
     let after-signature = after-read-tables .before .before in
     let after-read-text2 = after-signature .before .before in
     let after-code = after-read-text2 .before .before in
@@ -152,8 +152,31 @@ returns-7 c =
     let fault-is = sym (after-case-number2 .case-number2 .ensures .0) ∙ after-fault .fault .given .1 in
     let code-is = sym (after-read-text .read-text .ensures .0) ∙ after-code .code .given .1 in
     let signature-is = sym (after-read-text2 .read-text2 .ensures .0) ∙ after-signature .signature .given .1 in
-    let wrong-is = sym (after-read-tables .read-tables .ensures) ∙ after-wrong .wrong .given .1 in
-    sym (rw (le-ltb _ _ (after-if1 .if1 .left), flags-is, fault-is, code-is, signature-is, wrong-is))
+    let runs-is = sym (after-read-tables .read-tables .ensures) ∙ after-runs .runs .given .1 in
+    let excess = lt-ltb _ _ (c .if2 .taken) in
+    sym (rw (le-ltb _ _ (after-if1 .if1 .left), flags-is, fault-is, code-is, signature-is, runs-is, excess))
+
+returns-8 : tie.Need-returns-8
+unfolding caseOf placesIn
+returns-8 c =
+    let after-runs = c .before .before in
+    let after-read-tables = after-runs .before .before in
+    let after-signature = after-read-tables .before .before in
+    let after-read-text2 = after-signature .before .before in
+    let after-code = after-read-text2 .before .before in
+    let after-read-text = after-code .before .before in
+    let after-fault = after-read-text .before .before in
+    let after-case-number2 = after-fault .before .before in
+    let after-flags = after-case-number2 .before .before in
+    let after-case-number = after-flags .before .before in
+    let after-if1 = after-case-number .before in
+    let flags-is = sym (after-case-number .case-number .ensures .0) ∙ after-flags .flags .given .1 in
+    let fault-is = sym (after-case-number2 .case-number2 .ensures .0) ∙ after-fault .fault .given .1 in
+    let code-is = sym (after-read-text .read-text .ensures .0) ∙ after-code .code .given .1 in
+    let signature-is = sym (after-read-text2 .read-text2 .ensures .0) ∙ after-signature .signature .given .1 in
+    let runs-is = sym (after-read-tables .read-tables .ensures) ∙ after-runs .runs .given .1 in
+    let whole = le-ltb _ _ (c .if2 .left) in
+    sym (rw (le-ltb _ _ (after-if1 .if1 .left), flags-is, fault-is, code-is, signature-is, runs-is, whole))
 
 pub read-case-spec : {M : Type 1} → statement M
 read-case-spec =
@@ -179,7 +202,8 @@ read-case-spec =
     returns-5
     add-read-tables
     read-tables-requires
-    enum-known-tables
-    enum-known-wrong
+    enum-known-runs
+    enum-known-runs-2
     returns-6
-    returns-7)
+    returns-7
+    returns-8)

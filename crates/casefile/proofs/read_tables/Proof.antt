@@ -3,7 +3,6 @@
 use native.Mathlib.Omega.{arith}
 use mathlib.Core.Path.{_∙_, sym}
 use borrow.Author.Needs.{needs}
-use borrow.Author.Tests.{lt-ltb, le-ltb}
 use Rattle.casefile.specs.Whole.{tablesAt}
 use Rattle.casefile.proofs.read_tables.Statement.{statement}
 use Rattle.casefile.proofs.read_tables.Tie as tie
@@ -92,40 +91,22 @@ returns-4 c =
     let record-run2-is = sym (after-read-records .read-records .ensures .0) ∙ after-record-run2 .record-run2 .given .1 in
     sym (rw (member-count-is, member-run-is, record-count-is, record-run2-is))
 
-returns-5 : tie.Need-returns-5
-unfolding tablesAt
-returns-5 c =
-    let after-record-run = c .before .before in
-    let after-read-records = after-record-run .before .before in
-    let after-record-count = after-read-records .before .before in
-    let after-case-number2 = after-record-count .before .before in
-    let after-member-run = after-case-number2 .before .before in
-    let after-read-members = after-member-run .before .before in
-    let after-member-count = after-read-members .before .before in
-    let after-case-number = after-member-count .before .before in
-    let member-count-is = sym (after-case-number .case-number .ensures .0) ∙ after-member-count .member-count .given .1 in
-    let member-run-is = sym (after-read-members .read-members .ensures .0) ∙ after-member-run .member-run .given .1 in
-    let record-count-is = sym (after-case-number2 .case-number2 .ensures .0) ∙ after-record-count .record-count .given .1 in
-    let record-run-is = sym (after-read-records .read-records .ensures .0) ∙ after-record-run .record-run .given .1 in
-    let past = lt-ltb _ _ (c .if1 .taken) in
-    sym (rw (member-count-is, member-run-is, record-count-is, record-run-is, past))
-
 sub-t19 : tie.Need-sub-t19
 sub-t19 c =
-    let after-member-run = c .before .before .before .before .before .before .before .before .before .before in
+    let after-member-run = c .before .before .before .before .before .before .before .before .before in
     let after-read-members = after-member-run .before .before in
     omega (arith, rw (after-member-run .member-run .given .1) at (after-read-members .read-members .ensures .1) .0)
 
-sub-t21 : tie.Need-sub-t21
-sub-t21 c =
-    let after-record-run = c .before .before in
+sub-t20 : tie.Need-sub-t20
+sub-t20 c =
+    let after-record-run = c .before in
     let after-read-records = after-record-run .before .before in
     omega (arith, rw (after-record-run .record-run .given .1) at (after-read-records .read-records .ensures .1) .0)
 
-returns-6 : tie.Need-returns-6
+returns-5 : tie.Need-returns-5
 unfolding tablesAt
-returns-6 c =
-    let after-record-run = c .before .before in
+returns-5 c =
+    let after-record-run = c .before in
     let after-read-records = after-record-run .before .before in
     let after-record-count = after-read-records .before .before in
     let after-case-number2 = after-record-count .before .before in
@@ -137,8 +118,7 @@ returns-6 c =
     let member-run-is = sym (after-read-members .read-members .ensures .0) ∙ after-member-run .member-run .given .1 in
     let record-count-is = sym (after-case-number2 .case-number2 .ensures .0) ∙ after-record-count .record-count .given .1 in
     let record-run-is = sym (after-read-records .read-records .ensures .0) ∙ after-record-run .record-run .given .1 in
-    let whole = le-ltb _ _ (c .if1 .left) in
-    sym (rw (member-count-is, member-run-is, record-count-is, record-run-is, whole))
+    sym (rw (member-count-is, member-run-is, record-count-is, record-run-is))
 
 pub read-tables-spec : {M : Type 1} → statement M
 read-tables-spec =
@@ -160,7 +140,6 @@ read-tables-spec =
     enum-known-record-run
     enum-known-record-run-2
     returns-4
-    returns-5
     sub-t19
-    sub-t21
-    returns-6)
+    sub-t20
+    returns-5)

@@ -1,20 +1,23 @@
--- What it says of the slots that a step of the walk goes on.
+-- What it says of the slots and of the next index that a step of the walk goes on, by any table of rows.
 -- Assumes nothing.
-use Prim.Native.Nat.{ℕ, _+_, _-_, _≤_}
+use Prim.Native.Nat.{ℕ, _+_, _-_, _≤_, _<_}
 use native.Mathlib.Omega.{arith}
 use mathlib.Core.Path.{_≡_, refl}
 use mathlib.Core.Bool.{Bool, true, false}
 use mathlib.Core.List.{List, [], _∷_, _++_}
-use lib.Dec.{leb, ltb}
+use lib.Dec.{T, leb, ltb}
 use lib.ListN.{length, take, replicate}
 use borrow.Author.Tests.{leb-true}
-use Rattle.basics.specs.Bytes.{byteAt}
+use Rattle.basics.specs.Bytes.{AreBytes}
 use Rattle.basics.specs.Choice.{pick}
-use Rattle.fixed.specs.Fixed.{fixedLength}
+use Rattle.jvms.specs.Stack.{keyAt}
+use Rattle.jvms.proofs.Keys.{key-below}
+use Rattle.fixed.specs.Fixed.{sizeAt}
+use Rattle.effects.specs.Agreement.{isModelled, Sized}
 use Rattle.effects.specs.Lookup.{Lookup}
-use Rattle.effects.specs.Rows.{Row}
+use Rattle.effects.specs.Rows.{Row, unmodelled, opaque, aload, aloadOf, carries, keeps, gets, calls}
 use Rattle.walk.specs.Walk.{Reason, pastEnd, tooLarge, tooFew, Marks, Push, blanks, load, carried, unread, does, effectBy}
 use Rattle.walk.specs.Walk.{Made, refused, made, placed, pushed, applied, stops, goes, passes, landed, step}
 
 -- ---- an effect
 
@@ -68,11 +71,11 @@ module _ {A : Type 0} (marks : Marks A) (pc : ℕ) where
 module _
     {A : Type 0} (marks : Marks A) (rows : ℕ → Row) (lookup : Lookup) (code : List ℕ) (fault pc : ℕ) (list : List A) where
   abbrev pub effect : Made A
-  effect = applied marks pc (effectBy lookup code pc (rows (byteAt code pc))) list
+  effect = applied marks pc (effectBy lookup code pc (rows (keyAt code pc))) list
 
   pub record Stepped (next : ℕ) (slots : List A) : Type 0 where
     pub makes : effect ≡ made slots
-    pub lands : next ≡ pc + fixedLength (byteAt code pc)
+    pub lands : next ≡ pc + sizeAt code pc
     pub notPast : next ≤ fault
 
   pub stepped :
@@ -81,7 +84,7 @@ module _
   stepped next slots e = by-end (ltb pc (length code)) e
     where
       size : ℕ
-      size = fixedLength (byteAt code pc)
+      size = sizeAt code pc
 
       by-fault :
           (list : List A) → effect ≡ made list → (b : Bool) → leb (pc + size) fault ≡ b →
@@ -98,3 +101,26 @@ module _
       by-end : (b : Bool) → pick b (landed fault (pc + size) effect) (stops pastEnd) ≡ goes next slots → Stepped next slots
       by-end true q = by-made effect refl q
       by-end false q = let z : _≡_ {A = ℕ} 0 1 = cc in absurd (omega arith)
+
+  -- a row that makes a list is modelled
+  made-modelled :
+      (row : Row) (slots : List A) → applied marks pc (effectBy lookup code pc row) list ≡ made slots → T (isModelled row)
+  made-modelled unmodelled slots e = refused-not-made e
+  made-modelled (opaque takes gives) slots e = tt
+  made-modelled aload slots e = tt
+  made-modelled (aloadOf local) slots e = tt
+  made-modelled (carries takes places) slots e = tt
+  made-modelled keeps slots e = tt
+  made-modelled (gets takes) slots e = tt
+  made-modelled (calls takes) slots e = tt
+
+  pub goes-modelled :
+      (next : ℕ) (slots : List A) → step marks rows lookup code fault pc list ≡ goes next slots → T (isModelled (rows (keyAt code pc)))
+  goes-modelled next slots e = made-modelled (rows (keyAt code pc)) slots (stepped next slots e .makes)
+
+  -- an instruction that goes on does so by a byte at least
+  pub onward :
+      Sized rows → AreBytes code → (next : ℕ) (slots : List A) → step marks rows lookup code fault pc list ≡ goes next slots →
+      pc < next
+  onward sized bytes next slots e =
+      omega (arith, stepped next slots e .lands, sized (keyAt code pc) (key-below code bytes pc) (goes-modelled next slots e))

@@ -1,0 +1,4 @@
+pub mod Alike
+pub mod Asks
+pub mod Ends
+pub mod Extends
