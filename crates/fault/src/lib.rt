@@ -1,13 +1,13 @@
 // What the faulting instruction would have done, and how deep the reference lies that it would have dereferenced (document 01,
 // "Action and cause").
 use check::same;
+use depth::store_depth;
 use descriptor::Params;
 use opcode::Opcode;
 ghost use Prim.Native.Nat.{_-_, _≤_, _<_};
-ghost use mathlib.Core.List.{[], _∷_};
 ghost use mathlib.Core.Path.{_≡_};
 ghost use lib.ListN.{length};
-ghost use Rattle.basics.specs.Choice.{pick, oneOf};
+ghost use Rattle.depth.specs.Store.{storeDepth};
 ghost use Rattle.fault.specs.Decoding.{decoded};
 ghost use Rattle.fault.specs.Inside.{decodedAs};
 ghost use Rattle.fault.specs.declared.Action.the-variants.{LoadArray, StoreArray};
@@ -96,19 +96,6 @@ fn invoke_fault(code: &[u8], members: &[u8], count: usize, fault: usize) -> Faul
     }
 }
 
-// How many slots lie above the array that is stored to: the index and the value.
-fn store_depth(op: u8) -> usize
-    ensures { λ r. ⌜ r ≡ pick (oneOf (80 ∷ 82 ∷ []) op) 3 2 ⌝ }
-{
-    if op == Opcode::LASTORE {
-        return 3;
-    }
-    if op == Opcode::DASTORE {
-        return 3;
-    }
-    2
-}
-
 // The fault of a load from an array.
 fn load_fault(op: u8) -> Fault
     requires { ⌜ (46 ≤ op) × (op ≤ 53) ⌝ }
@@ -124,7 +111,7 @@ fn load_fault(op: u8) -> Fault
 // The fault of a store to an array.
 fn store_fault(op: u8) -> Fault
     requires { ⌜ (79 ≤ op) × (op ≤ 86) ⌝ }
-    ensures { λ r. ⌜ r ≡ Failed (StoreArray (op - 79)) (pick (oneOf (80 ∷ 82 ∷ []) op) 3 2) ⌝ }
+    ensures { λ r. ⌜ r ≡ Failed (StoreArray (op - 79)) (storeDepth op) ⌝ }
 {
     let element = (op - Opcode::IASTORE) as usize;
     Fault::Failed {

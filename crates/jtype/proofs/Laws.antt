@@ -10,9 +10,9 @@ use lib.Dec.{eqb, ltb}
 use lib.ListN.{length, getD, drop, drop-of-length-le}
 use lib.Seq.{drop-cons, drop-drop}
 use Rattle.basics.specs.Choice.{pick}
-use Rattle.jtype.specs.OneType.{brackets, semicolonIn, semicolonFrom, isBase, unnamedType, classType, element, typeIn}
+use Rattle.jtype.specs.OneType.{brackets, unnamedType, classType, element, typeIn}
 use Rattle.jtype.specs.OneType.{typeAt}
-use Rattle.jtype.specs.declared.Found.the-variants.{At, Absent}
+use Rattle.jletter.specs.Letter.{semicolonFrom, isBase}
 use Rattle.jtype.specs.declared.Next.the-variants.{Close, Refused}
 use Rattle.refusal.specs.declared.Refusal.the-variants.{UnexpectedEnd, TooManyDimensions, CloseAfterBracket, ArrayOfVoid}
 use Rattle.refusal.specs.declared.Refusal.the-variants.{Unrecognised}
@@ -32,17 +32,6 @@ pub brackets-more :
     at + brackets (drop at text) ≡ at + 1 + brackets (drop (at + 1) text)
 unfolding brackets
 brackets-more text at inside bracket = rw (drop-cons text at 0 inside, bracket, add-one at) (omega arith)
-
--- the semicolon
-pub semicolon-at-end : (text : List ℕ) (at : ℕ) → length text ≤ at → semicolonFrom text at ≡ Absent
-unfolding semicolonFrom semicolonIn
-semicolon-at-end text at past = rw (drop-of-length-le text past)
-
-pub semicolon-next :
-    (text : List ℕ) (at : ℕ) → at < length text →
-    semicolonFrom text at ≡ pick (eqb (getD text at 0) 59) (At at) (semicolonFrom text (at + 1))
-unfolding semicolonFrom semicolonIn
-semicolon-next text at inside = rw (drop-cons text at 0 inside, add-one at)
 
 -- what stands behind brackets
 pub element-at-end : (text : List ℕ) (depth at : ℕ) → length text ≤ at → element depth (drop at text) at ≡ Refused UnexpectedEnd

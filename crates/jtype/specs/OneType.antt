@@ -3,13 +3,13 @@
 -- The bytes: 40 `(`, 41 `)`, 59 `;`, 76 `L`, 86 `V`, 91 `[`.
 -- Assumes nothing.
 use Prim.Native.Nat.{ℕ, suc, _+_, _-_}
-use mathlib.Core.Bool.{Bool}
 use mathlib.Core.List.{List, [], _∷_}
 use lib.Dec.{eqb, ltb}
 use lib.ListN.{drop}
-use Rattle.basics.specs.Choice.{pick, oneOf}
-use Rattle.jtype.specs.declared.Found.{Found}
-use Rattle.jtype.specs.declared.Found.the-variants.{At, Absent}
+use Rattle.basics.specs.Choice.{pick}
+use Rattle.jletter.specs.Letter.{semicolonIn, isBase}
+use Rattle.jletter.specs.declared.Found.{Found}
+use Rattle.jletter.specs.declared.Found.the-variants.{At, Absent}
 use Rattle.jtype.specs.declared.Next.{Next}
 use Rattle.jtype.specs.declared.Next.the-variants.{Is, Close, Refused}
 use Rattle.refusal.specs.declared.Refusal.the-variants.{UnexpectedEnd, TooManyDimensions, EmptyClassName}
@@ -20,18 +20,6 @@ use Rattle.jtype.specs.declared.TypeRecord.{TypeRecord}
 unfoldable pub brackets : List ℕ → ℕ
 brackets [] = 0
 brackets (x ∷ rest) = pick (eqb x 91) (suc (brackets rest)) 0
-
--- the place of the first `;` of a text whose first byte stands at the place given
-unfoldable pub semicolonIn : List ℕ → ℕ → Found
-semicolonIn [] at = Absent
-semicolonIn (x ∷ rest) at = pick (eqb x 59) (At at) (semicolonIn rest (at + 1))
-
-unfoldable pub semicolonFrom : List ℕ → ℕ → Found
-semicolonFrom text from = semicolonIn (drop from text) from
-
--- B C D F I J S Z
-unfoldable pub isBase : ℕ → Bool
-isBase letter = oneOf (66 ∷ 67 ∷ 68 ∷ 70 ∷ 73 ∷ 74 ∷ 83 ∷ 90 ∷ []) letter
 
 -- "base letter, dimensions, name start in the descriptor, name length"
 abbrev pub typeRecord : ℕ → ℕ → ℕ → ℕ → TypeRecord

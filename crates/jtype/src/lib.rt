@@ -1,10 +1,14 @@
 // One type of a strict descriptor, at a place of a text (document 01, "Descriptors", strict).
 // Every function takes any text and any place.
+use jletter::Found;
+use jletter::is_base;
+use jletter::semicolon;
 use refusal::Refusal;
 ghost use mathlib.Core.Path.{_≡_};
 ghost use Prim.Native.Nat.{_+_};
 ghost use lib.ListN.{drop};
-ghost use Rattle.jtype.specs.OneType.{brackets, semicolonFrom, isBase, unnamedType, classType, element, typeAt};
+ghost use Rattle.jletter.specs.Letter.{semicolonFrom};
+ghost use Rattle.jtype.specs.OneType.{brackets, unnamedType, classType, element, typeAt};
 
 // A type that was read: its base letter, its dimensions, and where its class name stands in the text (0 and 0 without one).
 pub struct TypeRecord {
@@ -29,12 +33,6 @@ pub enum Next {
     Refused(Refusal),
 }
 
-// What the search for a semicolon finds.
-pub enum Found {
-    At(usize),
-    Absent,
-}
-
 // The place after the `[` that stand in a row from at on.
 fn after_brackets(text: &[u8], at: usize) -> usize
     ensures { λ r. ⌜ r ≡ at + brackets (drop at (now (text .entry))) ⌝ }
@@ -48,37 +46,6 @@ fn after_brackets(text: &[u8], at: usize) -> usize
             return place;
         }
         place += 1;
-    }
-}
-
-// The first semicolon at or after a place.
-fn semicolon(text: &[u8], from: usize) -> Found
-    ensures { λ r. ⌜ r ≡ semicolonFrom (now (text .entry)) from ⌝ }
-{
-    let mut i = from;
-    let place = loop {
-        if text.len() <= i {
-            break Found::Absent;
-        }
-        if text[i] == b';' {
-            break Found::At(i);
-        }
-        i += 1;
-    };
-    place
-}
-
-// One of the eight base letters.
-fn is_base(letter: u8) -> bool
-    ensures { λ r. ⌜ r ≡ isBase letter ⌝ }
-{
-    match letter {
-        b'B'..=b'D' => true,
-        b'F' => true,
-        b'I'..=b'J' => true,
-        b'S' => true,
-        b'Z' => true,
-        _ => false,
     }
 }
 

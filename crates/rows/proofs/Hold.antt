@@ -18,7 +18,8 @@ use Rattle.text.specs.Decimal.{digits, decimal}
 use Rattle.text.specs.Writing.{over}
 use Rattle.classname.specs.ClassName.{dotOf, dotted, className}
 use Rattle.names.specs.Names.{baseNames, baseName, elementName, bracketPairs, typeName, typeNames, commaed, joined, parameterNames}
-use Rattle.jtype.specs.OneType.{brackets as strictBrackets, isBase, unnamedType, element, typeIn, typeAt}
+use Rattle.jletter.specs.Letter.{isBase}
+use Rattle.jtype.specs.OneType.{brackets as strictBrackets, unnamedType, element, typeIn, typeAt}
 use Rattle.refusal.specs.Refusal.{numberOf}
 use Rattle.jdescriptor.specs.Answer.{answer}
 use Rattle.judging.specs.Judged.{numbered}

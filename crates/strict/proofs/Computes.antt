@@ -12,8 +12,9 @@ use borrow.Author.Tests.{lt-ltb, le-ltb, eq-eqb, ne-eqb}
 use Rattle.jvms.specs.Descriptor.{BaseType, byte, char, double, float, int, long, short, boolean, letter}
 use Rattle.jvms.specs.Descriptor.{FieldType, base, class, array, ReturnType, void, typed, render, renderReturn, dimensions}
 use Rattle.jvms.specs.Descriptor.{NoSemicolon, ClassName, Named, WellFormed, WellFormedReturn}
-use Rattle.jtype.specs.OneType.{brackets, semicolonIn, isBase, typeRecord, unnamedType, classType, element, typeIn}
-use Rattle.jtype.specs.declared.Found.the-variants.{At, Absent}
+use Rattle.jletter.specs.Letter.{semicolonIn, isBase}
+use Rattle.jtype.specs.OneType.{brackets, typeRecord, unnamedType, classType, element, typeIn}
+use Rattle.jletter.specs.declared.Found.the-variants.{At, Absent}
 use Rattle.jtype.specs.declared.Next.the-variants.{Is, Close, Refused}
 use Rattle.refusal.specs.declared.Refusal.{Refusal}
 use Rattle.refusal.specs.declared.Refusal.the-variants.{UnexpectedEnd, TooManyDimensions, EmptyClassName, MissingSemicolon}

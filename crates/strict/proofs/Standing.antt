@@ -12,7 +12,7 @@ use Rattle.basics.specs.Choice.{pick}
 use Rattle.jvms.specs.Descriptor.{BaseType, byte, char, double, float, int, long, short, boolean, letter}
 use Rattle.jvms.specs.Descriptor.{FieldType, base, class, array, ReturnType, void, typed, render, renderReturn, dimensions}
 use Rattle.jvms.specs.Descriptor.{NoSemicolon, Named, WellFormedReturn}
-use Rattle.jtype.specs.OneType.{isBase}
+use Rattle.jletter.specs.Letter.{isBase}
 use Rattle.refusal.specs.declared.Refusal.{Refusal}
 use Rattle.refusal.specs.declared.Refusal.the-variants.{UnexpectedEnd, TooManyDimensions, EmptyClassName, MissingSemicolon}
 use Rattle.refusal.specs.declared.Refusal.the-variants.{CloseAfterBracket, ArrayOfVoid, Unrecognised}

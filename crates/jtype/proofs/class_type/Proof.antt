@@ -5,7 +5,7 @@ use mathlib.Core.Path.{_∙_, sym}
 use borrow.Author.Needs.{needs}
 use borrow.Author.Tests.{eq-eqb, ne-eqb}
 use Rattle.jtype.specs.OneType.{classType}
-use Rattle.jtype.proofs.Ends.{semicolon-within}
+use Rattle.jletter.proofs.Ends.{semicolon-within}
 use Rattle.jtype.proofs.class_type.Statement.{statement}
 use Rattle.jtype.proofs.class_type.Tie as tie
 

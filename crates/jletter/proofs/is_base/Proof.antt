@@ -1,12 +1,12 @@
--- `jtype::is_base` meets its contract. Each arm and each gap between arms is one computed test.
+-- `jletter::is_base` meets its contract. Each arm and each gap between arms is one computed test.
 -- Assumes nothing.
 use native.Mathlib.Omega.{arith}
 use mathlib.Core.Bool.{true, false}
 use mathlib.Core.Path.{sym}
-use Rattle.jtype.specs.OneType.{isBase}
-use Rattle.jtype.proofs.Letters.{all-of-run}
-use Rattle.jtype.proofs.is_base.Statement.{statement}
-use Rattle.jtype.proofs.is_base.Tie as tie
+use Rattle.jletter.specs.Letter.{isBase}
+use Rattle.jletter.proofs.Letters.{all-of-run}
+use Rattle.jletter.proofs.is_base.Statement.{statement}
+use Rattle.jletter.proofs.is_base.Tie as tie
 
 returns : tie.Need-returns
 unfolding isBase

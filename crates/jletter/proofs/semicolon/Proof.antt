@@ -1,14 +1,14 @@
--- `jtype::semicolon` meets its contract. The loop's invariant: the first semicolon from here is the first from the start.
+-- `jletter::semicolon` meets its contract. The loop's invariant: the first semicolon from here is the first from the start.
 -- Assumes nothing.
 use Prim.Native.Nat.{_-_}
 use native.Mathlib.Omega.{arith}
 use mathlib.Core.Path.{_≡_, _∙_, refl}
 use lib.ListN.{length}
 use borrow.Author.Tests.{eq-eqb, ne-eqb}
-use Rattle.jtype.specs.OneType.{semicolonFrom}
-use Rattle.jtype.proofs.Laws.{semicolon-at-end, semicolon-next}
-use Rattle.jtype.proofs.semicolon.Statement.{statement}
-use Rattle.jtype.proofs.semicolon.Tie as tie
+use Rattle.jletter.specs.Letter.{semicolonFrom}
+use Rattle.jletter.proofs.Laws.{semicolon-at-end, semicolon-next}
+use Rattle.jletter.proofs.semicolon.Statement.{statement}
+use Rattle.jletter.proofs.semicolon.Tie as tie
 
 abbrev Inv-loop : tie.InvT-loop
 Inv-loop text from i₀ i = semicolonFrom text from ≡ semicolonFrom text i

@@ -7,7 +7,7 @@ use borrow.Author.Tests.{ne-eqb}
 use lib.Dec.{T, eqb}
 use Rattle.basics.specs.Choice.{pick, alike}
 use Rattle.basics.proofs.Every.{every, every-from, alike-is}
-use Rattle.jtype.specs.OneType.{isBase}
+use Rattle.jletter.specs.Letter.{isBase}
 
 -- a byte is a base letter or not, as wanted; or it is one of the three that stand alone
 abbrev as-wanted : Bool → ℕ → Bool

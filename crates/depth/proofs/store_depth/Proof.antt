@@ -1,8 +1,8 @@
--- `fault::store_depth` meets its contract. Three slots for 80 and 82, else two.
+-- `depth::store_depth` meets its contract. Three slots for 80 and 82, else two.
 -- Assumes nothing.
 use borrow.Author.Tests.{ne-eqb}
-use Rattle.fault.proofs.store_depth.Statement.{statement}
-use Rattle.fault.proofs.store_depth.Tie as tie
+use Rattle.depth.proofs.store_depth.Statement.{statement}
+use Rattle.depth.proofs.store_depth.Tie as tie
 
 returns : tie.Need-returns
 returns c = rw (c .if1 .taken)
