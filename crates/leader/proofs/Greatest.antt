@@ -4,7 +4,7 @@ use Prim.Native.Nat.{ℕ, zero, suc, _+_, _-_, _*_, _^_, max, _≤_, _<_}
 use native.Mathlib.Nat.{not-suc-le-zero, suc-mul}
 use native.Mathlib.Numerals.{sub-one}
 use native.Mathlib.Omega.{arith}
-use mathlib.Core.Path.{_≡_}
+use mathlib.Core.Path.{_≡_, _∙_, ap}
 use mathlib.Core.List.{List, [], _∷_, _++_}
 use borrow.Author.Tests.{le-leb}
 use Rattle.bytecode.specs.Length.{operandsAt}
@@ -67,3 +67,10 @@ whole-switch code pc step count limit best at top all at-is top-is all-is =
     let default = target (2 ^ 31) (pc + i32At code at) in
     let entries = entryTargets code pc step count (at + 12) in
     rw (← at-is) (omega (arith, top-is, all-is, raised-by limit best default entries))
+
+-- a maximum over the target that a read offset gives is that over the offset's number
+pub aimed-at :
+    (limit best half pc read n top : ℕ) → top ≡ max best (greatest limit (target half (pc + read))) → read ≡ n →
+    top ≡ max best (greatest limit (target half (pc + n)))
+aimed-at limit best half pc read n top is same =
+    is ∙ ap (λ (k : ℕ). max best (greatest limit (target half (pc + k)))) same

@@ -31,7 +31,7 @@ add-result-2 c = search needs
 
 returns : tie.Need-returns
 unfolding lookupBytes lookupPairs
-returns c = cc
+returns c = rw (c .minus .ensures, c .before .read-i32 .ensures .0, c .before .before .operands-at .ensures)
 
 pub lookup-bytes-spec : {M : Type 1} → statement M
 lookup-bytes-spec =

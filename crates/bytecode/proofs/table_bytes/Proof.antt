@@ -40,7 +40,9 @@ add-result-2 c = search needs
 
 returns : tie.Need-returns
 unfolding tableBytes tableEntries
-returns c = cc
+returns c =
+    let low = c .before .before in
+    rw (c .minus .ensures, c .before .read-i322 .ensures .0, low .read-i32 .ensures .0, low .before .operands-at .ensures)
 
 pub table-bytes-spec : {M : Type 1} → statement M
 table-bytes-spec =

@@ -1,13 +1,12 @@
 -- `leader::entry_targets` meets its contract. The loop's invariant: the maximum so far with the entries left is that of all entries.
 -- Assumes nothing.
-use Prim.Native.Nat.{ℕ, _+_, _*_, _^_, max, _≤_}
+use Prim.Native.Nat.{_+_, _*_, _^_, max, _≤_}
 use native.Mathlib.Omega.{arith}
-use mathlib.Core.Path.{_≡_, refl, _∙_, ap}
+use mathlib.Core.Path.{_≡_, refl, _∙_}
 use lib.ListN.{length}
-use Rattle.reads.specs.Signed.{i32At}
-use Rattle.greatest.specs.Greatest.{greatest, target}
+use Rattle.greatest.specs.Greatest.{greatest}
 use Rattle.leader.specs.Targets.{entryTargets}
-use Rattle.leader.proofs.Greatest.{no-entries, one-entry, one-step-less}
+use Rattle.leader.proofs.Greatest.{no-entries, one-entry, one-step-less, aimed-at}
 use Rattle.leader.proofs.entry_targets.Statement.{statement}
 use Rattle.leader.proofs.entry_targets.Tie as tie
 
@@ -44,11 +43,9 @@ loop-again : tie.Need-loop-again Inv-loop μ-loop
 loop-again c =
     let l = c .before .before .before .loop in
     let a = c .before .before .before .before .before .args in
-    let some = c .before .before .loop-test .taken in
-    let aimed : c .aim .result ≡ max (l .top) (greatest (a .fault) (target (2 ^ 31) (a .pc + i32At (a .code .now) (l .at)))) =
-    c .aim .ensures
-    ∙ ap (λ (n : ℕ). max (l .top) (greatest (a .fault) (target (2 ^ 31) (a .pc + n)))) (c .before .read-i32 .ensures .0) in (
-      one-entry (a .code .now) (a .pc) (a .step) (a .fault) (l .top) (l .at) (l .left) (c .aim .result) some aimed ∙ l .inv .0,
+    let some = c .before .before .loop-test .taken in (
+      one-entry (a .code .now) (a .pc) (a .step) (a .fault) (l .top) (l .at) (l .left) (c .aim .result) some
+          (aimed-at (a .fault) (l .top) (2 ^ 31) (a .pc) _ _ _ (c .aim .ensures) (c .before .read-i32 .ensures .0)) ∙ l .inv .0,
       omega (arith, one-step-less (l .left) (a .step) some),
     )
 

@@ -1,6 +1,6 @@
 -- `leader::leaders_at` meets its contract. One arm a kind: its targets, then the next index. The entries of a switch are counted from its length.
 -- Assumes nothing.
-use Prim.Native.Nat.{_+_, _-_, _/_, _<_}
+use Prim.Native.Nat.{_+_, _-_, _/_, _^_, _<_}
 use native.Mathlib.Omega.{arith}
 use mathlib.Core.Path.{_≡_, refl, sym, _∙_}
 use borrow.Author.Needs.{needs}
@@ -9,6 +9,7 @@ use Rattle.bytecode.specs.Length.{tableEntries, lookupPairs, tableBytes, lookup
 use Rattle.greatest.specs.Greatest.{greatest}
 use Rattle.branch.specs.Branch.{branchOf}
 use Rattle.branch.specs.declared.Branch.the-variants.{Near, Far, Table, Lookup, Ends}
+use Rattle.leader.proofs.Greatest.{aimed-at}
 use Rattle.leader.proofs.OfBranch.{table-bytes, lookup-bytes, plain, up-to-next}
 use Rattle.leader.proofs.leaders_at.Statement.{statement}
 use Rattle.leader.proofs.leaders_at.Tie as tie
@@ -121,13 +122,17 @@ returns : tie.Need-returns
 returns c =
     let a = c .before .before .before .before .before .before .before .before .args in
     let e : branchOf (byteAt (a .code .now) (a .pc)) ≡ Near = sym (c .before .before .before .before .before .branch-of .ensures) ∙ c .before .before .before .enum-told .given .1 in
-    up-to-next (a .code .now) (a .pc) (a .next) (a .fault) (a .best) Near (c .before .aim .result) (c .raise .result) e refl (cc) (c .raise .ensures)
+    up-to-next (a .code .now) (a .pc) (a .next) (a .fault) (a .best) Near (c .before .aim .result) (c .raise .result) e refl
+    (aimed-at (a .fault) (a .best) (2 ^ 15) (a .pc) _ _ _ (c .before .aim .ensures) (c .before .before .read-i16 .ensures .0))
+    (c .raise .ensures)
 
 returns-2 : tie.Need-returns-2
 returns-2 c =
     let a = c .before .before .before .before .before .before .before .before .args in
     let e : branchOf (byteAt (a .code .now) (a .pc)) ≡ Far = sym (c .before .before .before .before .before .branch-of .ensures) ∙ c .before .before .before .enum-told2 .given .1 in
-    up-to-next (a .code .now) (a .pc) (a .next) (a .fault) (a .best) Far (c .before .aim2 .result) (c .raise2 .result) e refl (cc) (c .raise2 .ensures)
+    up-to-next (a .code .now) (a .pc) (a .next) (a .fault) (a .best) Far (c .before .aim2 .result) (c .raise2 .result) e refl
+    (aimed-at (a .fault) (a .best) (2 ^ 31) (a .pc) _ _ _ (c .before .aim2 .ensures) (c .before .before .read-i32 .ensures .0))
+    (c .raise2 .ensures)
 
 returns-3 : tie.Need-returns-3
 unfolding tableBytes

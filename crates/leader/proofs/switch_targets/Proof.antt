@@ -1,9 +1,9 @@
 -- `leader::switch_targets` meets its contract. The default, then the entries.
 -- Assumes nothing.
-use Prim.Native.Nat.{_+_}
+use Prim.Native.Nat.{_+_, _^_}
 use native.Mathlib.Omega.{arith}
 use borrow.Author.Needs.{needs}
-use Rattle.leader.proofs.Greatest.{whole-switch}
+use Rattle.leader.proofs.Greatest.{whole-switch, aimed-at}
 use Rattle.leader.proofs.switch_targets.Statement.{statement}
 use Rattle.leader.proofs.switch_targets.Tie as tie
 
@@ -38,7 +38,9 @@ returns : tie.Need-returns
 returns c =
     let a = c .before .before .before .before .before .args in
     whole-switch (a .code .now) (a .pc) (a .step) (a .count) (a .fault) (a .best) (a .pc + 1 + c .before .before .before .pad .result)
-    (c .before .aim .result) (c .entry-targets .result) (omega arith) (cc) (c .entry-targets .ensures)
+    (c .before .aim .result) (c .entry-targets .result) (omega arith)
+    (aimed-at (a .fault) (a .best) (2 ^ 31) (a .pc) _ _ _ (c .before .aim .ensures) (c .before .before .read-i32 .ensures .0))
+    (c .entry-targets .ensures)
 
 pub switch-targets-spec : {M : Type 1} → statement M
 switch-targets-spec =
