@@ -256,9 +256,10 @@ module _
         afterTurn 𝓤 H (Below 𝓤 H A Nearer At t)
         (afterBlock 𝓤 H (afterSeq 𝓤 H (Wp 𝓤 H C Λ En mir.t-5 (atReturn 𝓤 H En Post)) (atReturn 𝓤 H En Post)))
 
-    turns : (t : Place) (y : Bool) → ltb (t .0) n ≡ y → Sq W (At t) (runs C Λ En mir.turn-1 (anyQ (Turned t)))
+    -- a turn where the run has a record more
+    goes-on : (t : Place) → ltb (t .0) n ≡ true → Sq W (At t) (runs C Λ En mir.turn-1 (anyQ (Turned t)))
     unfolding afterTurn step
-    turns t true less =
+    goes-on t less =
         assigns ! (of-opd ! (load ! (from ! (fld ! refl (stop !))) (look-in ! 18 (sub ! 1 refl (whole !))))) (from ! (stop !))
         (init ! 4 refl (tt, record { fits = gn .0 })) $
         assigns ! (bin ! (load ! (from ! (stop !)) (look ! 8 refl)) (load ! (from ! (stop !)) (look ! 4 refl)) tt) (from !
@@ -321,7 +322,11 @@ module _
 
         said-is : (r : Reading) (u : Val) → Is N.the-row r (u ∷ []) → IsReading r
         said-is r u is = subst (Is N.the-row r) (LL.tells N.the-type N′.the-laws r (u ∷ []) is) is
-    turns t false past =
+
+    -- behind the last record the loop is left
+    ends : (t : Place) → ltb (t .0) n ≡ false → Sq W (At t) (runs C Λ En mir.turn-1 (anyQ (Turned t)))
+    unfolding afterTurn
+    ends t past =
         assigns ! (of-opd ! (load ! (from ! (fld ! refl (stop !))) (look-in ! 18 (sub ! 1 refl (whole !))))) (from ! (stop !))
         (init ! 4 refl (tt, record { fits = gn .0 })) $
         assigns ! (bin ! (load ! (from ! (stop !)) (look ! 8 refl)) (load ! (from ! (stop !)) (look ! 4 refl)) tt) (from !
@@ -340,6 +345,10 @@ module _
         move ! (11 ∷ 12 ∷ []) $ free1 ! $ move ! (9 ∷ 10 ∷ []) $ free1 ! $ move ! (7 ∷ 8 ∷ []) $ free1 ! $
         move ! (5 ∷ 6 ∷ []) $ free1 ! $ move ! (3 ∷ 4 ∷ []) $ free1 ! $ free0 ! $
         by ! (exits (t .1) (t .3 .0) (over t (ltb-false (t .0) n past)))
+
+    turns : (t : Place) (y : Bool) → ltb (t .0) n ≡ y → Sq W (At t) (runs C Λ En mir.turn-1 (anyQ (Turned t)))
+    turns t true less = goes-on t less
+    turns t false past = ends t past
 
     -- the loop, and what follows it
     rests : Sq W (At begin) (runs C Λ En mir.t-4 (atRet En Post))

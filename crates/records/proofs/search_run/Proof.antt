@@ -215,9 +215,10 @@ module _
         afterTurn 𝓤 H (Below 𝓤 H A Nearer At t)
         (afterBlock 𝓤 H (afterSeq 𝓤 H (Wp 𝓤 H C Λ En mir.t-4 (atReturn 𝓤 H En Post)) (atReturn 𝓤 H En Post)))
 
-    turns : (t : Place) (y : Bool) → ltb (t .0) n ≡ y → Sq W (At t) (runs C Λ En mir.turn-1 (anyQ (Turned t)))
+    -- a turn where the run has a record more
+    goes-on : (t : Place) → ltb (t .0) n ≡ true → Sq W (At t) (runs C Λ En mir.turn-1 (anyQ (Turned t)))
     unfolding afterTurn step
-    turns t true less =
+    goes-on t less =
         assigns ! (of-opd ! (load ! (from ! (fld ! refl (stop !))) (look-in ! 16 (sub ! 1 refl (whole !))))) (from ! (stop !))
         (init ! 6 refl (tt, record { fits = gn .0 })) $
         assigns ! (bin ! (load ! (from ! (stop !)) (look ! 8 refl)) (load ! (from ! (stop !)) (look ! 6 refl)) tt) (from !
@@ -275,7 +276,11 @@ module _
 
         fits : t .0 + 1 < 2 ^ 64
         fits = omega (arith, gn .0, l)
-    turns t false past =
+
+    -- behind the last record the loop is left
+    ends : (t : Place) → ltb (t .0) n ≡ false → Sq W (At t) (runs C Λ En mir.turn-1 (anyQ (Turned t)))
+    unfolding afterTurn
+    ends t past =
         assigns ! (of-opd ! (load ! (from ! (fld ! refl (stop !))) (look-in ! 16 (sub ! 1 refl (whole !))))) (from ! (stop !))
         (init ! 6 refl (tt, record { fits = gn .0 })) $
         assigns ! (bin ! (load ! (from ! (stop !)) (look ! 8 refl)) (load ! (from ! (stop !)) (look ! 6 refl)) tt) (from !
@@ -292,6 +297,10 @@ module _
         move ! (12 ∷ 13 ∷ []) $ free1 ! $ move ! (10 ∷ 11 ∷ []) $ free1 ! $ move ! (8 ∷ 9 ∷ []) $ free1 ! $
         move ! (6 ∷ 7 ∷ []) $ free1 ! $ move ! (4 ∷ 5 ∷ []) $ free1 ! $ move ! (2 ∷ 3 ∷ []) $ free1 ! $ free1 ! $ free0 ! $
         by ! (exits (t .1) (t .2 .2) (over t (ltb-false (t .0) n past)))
+
+    turns : (t : Place) (y : Bool) → ltb (t .0) n ≡ y → Sq W (At t) (runs C Λ En mir.turn-1 (anyQ (Turned t)))
+    turns t true less = goes-on t less
+    turns t false past = ends t past
 
     -- the loop, and what follows it
     rests : Sq W (At begin) (runs C Λ En mir.t-3 (atRet En Post))
