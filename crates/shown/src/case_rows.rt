@@ -8,7 +8,7 @@ use tables::LocalRecord;
 use text::put_at;
 
 // case | what | bytes => document 01's number for the answer with what it carries, or 0 and where the parts lie
-pub fn case(bytes: &[u8]) -> Told {
+fn case(bytes: &[u8]) -> Told {
     match casefile::read_case(bytes) {
         Case::Parts(p) => [
             0,
@@ -32,7 +32,7 @@ pub fn case(bytes: &[u8]) -> Told {
 }
 
 // number | what | bytes | limit => the number that the bytes start with, and the place after it
-pub fn number(bytes: &[u8], limit: usize) -> Told {
+fn number(bytes: &[u8], limit: usize) -> Told {
     match number::read_number(bytes, 0, limit) {
         Number::Value(v, next) => told(0, v, next, 0),
         Number::NotNumber => told(1, 0, 0, 0),
@@ -41,7 +41,7 @@ pub fn number(bytes: &[u8], limit: usize) -> Told {
 
 // member | what | member run | count | pool index | kind => the length of the part that is handed back, those of its three texts,
 // and the texts
-pub fn member(out: &mut [u8], members: &[u8], count: usize, index: usize, kind: usize) -> Told {
+fn member(out: &mut [u8], members: &[u8], count: usize, index: usize, kind: usize) -> Told {
     let part = lookup::find_member(members, count, index, kind);
     let class = put_at(out, 0, items::class_of(part));
     let name = put_at(out, class, items::name_of(part));
@@ -50,7 +50,7 @@ pub fn member(out: &mut [u8], members: &[u8], count: usize, index: usize, kind: 
 }
 
 // record | what | record run | place => the record there
-pub fn record(records: &[u8], at: usize) -> Told {
+fn record(records: &[u8], at: usize) -> Told {
     match tables::read_record(records, at) {
         LocalRecord::Read(r) => [
             0,
@@ -69,5 +69,15 @@ pub fn record(records: &[u8], at: usize) -> Told {
             0,
         ],
         LocalRecord::Wrong(offset) => told(1, offset, 0, 0),
+    }
+}
+
+// What the library answers to a row about the bytes of a case.
+pub fn tell(out: &mut [u8], kind: usize, x: &[u8], v: &[usize; 7]) -> Told {
+    match kind {
+        8 => case(x),
+        9 => number(x, v[2]),
+        10 => member(out, x, v[2], v[3], v[4]),
+        _ => record(x, v[2]),
     }
 }

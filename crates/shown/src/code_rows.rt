@@ -12,7 +12,7 @@ use text::put_decimal_at;
 use walk::Walk;
 
 // length | what | code | index => the length, or none
-pub fn length(code: &[u8], pc: usize) -> Told {
+fn length(code: &[u8], pc: usize) -> Told {
     match bytecode::instruction_length(code, pc) {
         Measure::Length(n) => told(0, n, 0, 0),
         Measure::NoLength => told(1, 0, 0, 0),
@@ -20,7 +20,7 @@ pub fn length(code: &[u8], pc: usize) -> Told {
 }
 
 // leader | what | code | fault => the leader, or where there is no length, and the scan count
-pub fn leader(code: &[u8], fault: usize) -> Told {
+fn leader(code: &[u8], fault: usize) -> Told {
     match leader::block_leader(code, fault) {
         Scan::Leader { at, count } => told(0, at, count, 0),
         Scan::Unmeasured { at, count } => told(1, at, count, 0),
@@ -73,7 +73,7 @@ fn walk_in(
 }
 
 // walk | what | code | leader | fault | count of cells lent => the answer | the cells
-pub fn walk(
+fn walk(
     out: &mut [u8],
     code: &[u8],
     members: &[u8],
@@ -95,4 +95,14 @@ pub fn walk(
         fault,
         first_numbers(&mut stack, cells),
     )
+}
+
+// What the library answers to a row about code; a row of members answers their count.
+pub fn tell(out: &mut [u8], kind: usize, x: &[u8], y: &[u8], v: &[usize; 7]) -> Told {
+    match kind {
+        0 => length(x, v[2]),
+        1 => leader(x, v[2]),
+        2 => told(0, v[5], 0, 0),
+        _ => walk(out, x, y, v[5], v[2], v[3], v[4]),
+    }
 }

@@ -43,26 +43,16 @@ fn kinds() -> [u8; 677] {
 
 // What the library answers to the fields of a row of a kind. A text that goes with it is in the output, which has dots at first.
 fn tell(out: &mut [u8], kind: usize, x: &[u8], y: &[u8], v: &[usize; 7]) -> Told {
-    match kind {
-        0 => code_rows::length(x, v[2]),
-        1 => code_rows::leader(x, v[2]),
-        2 => told::told(0, v[5], 0, 0),
-        3 => code_rows::walk(out, x, y, v[5], v[2], v[3], v[4]),
-        4 => strict_rows::text(out, false, x, v[2]),
-        5 => strict_rows::text(out, true, x, v[2]),
-        6 => strict_rows::texts(out, x),
-        7 => strict_rows::digests(x),
-        8 => case_rows::case(x),
-        9 => case_rows::number(x, v[2]),
-        10 => case_rows::member(out, x, v[2], v[3], v[4]),
-        11 => case_rows::record(x, v[2]),
-        12 => name_rows::descriptor(out, x),
-        13 => name_rows::class(out, x, v[2], v[3], v[4]),
-        14 => name_rows::decimal(out, v[2], v[3], v[4]),
-        15 => name_rows::local(out, false, x, v[2], y, v[3], v[4]),
-        16 => name_rows::local(out, true, x, v[2], y, v[3], v[4]),
-        _ => told::nothing(),
+    if kind < 4 {
+        return code_rows::tell(out, kind, x, y, v);
     }
+    if kind < 8 {
+        return strict_rows::tell(out, kind, x, v);
+    }
+    if kind < 12 {
+        return case_rows::tell(out, kind, x, v);
+    }
+    name_rows::tell(out, kind, x, y, v)
 }
 
 // As many bytes as a case may have, and one more.

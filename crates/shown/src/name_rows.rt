@@ -28,7 +28,7 @@ fn unreadable(descriptor: &[u8]) -> Told {
 }
 
 // descriptor | text => its parameters and their slots, the return's slots, and the slots as a field
-pub fn descriptor(out: &mut [u8], descriptor: &[u8]) -> Told {
+fn descriptor(out: &mut [u8], descriptor: &[u8]) -> Told {
     match descriptor::parse_method_params(descriptor) {
         Params::Read { slots, end: _ } => {
             let text = names::put_params_at(out, 0, descriptor);
@@ -39,20 +39,20 @@ pub fn descriptor(out: &mut [u8], descriptor: &[u8]) -> Told {
 }
 
 // class | name | place | room | length of the output => the place after the name, and the output
-pub fn class(out: &mut [u8], name: &[u8], at: usize, room: usize, size: usize) -> Told {
+fn class(out: &mut [u8], name: &[u8], at: usize, room: usize, size: usize) -> Told {
     let next = classname::put_class_at(first_bytes(out, room), at, name);
     told_with(size, 0, next, 0, 0)
 }
 
 // decimal | number | place | length of the output => the place after the digits, and the output
-pub fn decimal(out: &mut [u8], n: usize, at: usize, size: usize) -> Told {
+fn decimal(out: &mut [u8], n: usize, at: usize, size: usize) -> Told {
     let next = put_decimal_at(first_bytes(out, size), at, n);
     told_with(size, 0, next, 0, 0)
 }
 
 // static | what | signature | count of records | records | local | index of the load => the local's name, in quotes
 // instance | the same
-pub fn local(
+fn local(
     out: &mut [u8],
     instance: bool,
     signature: &[u8],
@@ -63,4 +63,16 @@ pub fn local(
 ) -> Told {
     let end = locals::describe_local(out, 0, records, count, signature, instance, slot, load);
     told_with(end, 0, 0, 0, 0)
+}
+
+// What the library answers to a row about names. A kind that is none of these has no answer.
+pub fn tell(out: &mut [u8], kind: usize, x: &[u8], y: &[u8], v: &[usize; 7]) -> Told {
+    match kind {
+        12 => descriptor(out, x),
+        13 => class(out, x, v[2], v[3], v[4]),
+        14 => decimal(out, v[2], v[3], v[4]),
+        15 => local(out, false, x, v[2], y, v[3], v[4]),
+        16 => local(out, true, x, v[2], y, v[3], v[4]),
+        _ => nothing(),
+    }
 }

@@ -47,7 +47,7 @@ fn parsed(out: &mut [u8], method: bool, text: &[u8], numbers: &mut [u64]) -> Tol
 
 // type | text | count of numbers lent => the answer | the numbers; what is not written stays 7
 // method | text | count of numbers lent => the same
-pub fn text(out: &mut [u8], method: bool, text: &[u8], room: usize) -> Told {
+fn text(out: &mut [u8], method: bool, text: &[u8], room: usize) -> Told {
     if 128 < room {
         return nothing();
     }
@@ -97,7 +97,7 @@ fn put_letters(out: &mut [u8], at: usize, method: bool, text: &mut [u8], first: 
 }
 
 // texts | beginning => the type reader's answers to the eight texts with one letter more, then the method reader's
-pub fn texts(out: &mut [u8], beginning: &[u8]) -> Told {
+fn texts(out: &mut [u8], beginning: &[u8]) -> Told {
     if 100 < beginning.len() {
         return nothing();
     }
@@ -146,7 +146,7 @@ fn digest(text: &mut [u8], first: usize, end: usize, count: usize) -> u64 {
 }
 
 // digests | beginning => the digest of the 64 texts with two letters more, then of the 512 with three more
-pub fn digests(beginning: &[u8]) -> Told {
+fn digests(beginning: &[u8]) -> Told {
     if 100 < beginning.len() {
         return nothing();
     }
@@ -155,4 +155,14 @@ pub fn digests(beginning: &[u8]) -> Told {
     let two = digest(&mut text, size, sum(size, 2), 64);
     let three = digest(&mut text, size, sum(size, 3), 512);
     told(0, two as usize, three as usize, 0)
+}
+
+// What the library answers to a row about strict descriptors.
+pub fn tell(out: &mut [u8], kind: usize, x: &[u8], v: &[usize; 7]) -> Told {
+    match kind {
+        4 => text(out, false, x, v[2]),
+        5 => text(out, true, x, v[2]),
+        6 => texts(out, x),
+        _ => digests(x),
+    }
 }
