@@ -4,7 +4,7 @@ use crate::cases::Run;
 use crate::descriptors::STRICT_WRAPPED;
 use crate::layout::{lay_out, Member, Parts, Record};
 use crate::rule::Facts;
-use crate::sample::{lenient, line, strict};
+use crate::sample::line;
 use crate::sides::{quietly, Build, Checked, Held, Wrapped};
 
 /// Default 0, low 0, high 1 and two entries.
@@ -106,6 +106,24 @@ fn strict_rows() -> Vec<(String, bool, String)> {
         row("Ljava/lang/String;", false, "0 76 0 1 16"),
         row("([[[Ljava/lang/String;)[[[I", true, "0 76 3 5 16 73 3 0 0"),
     ]
+}
+
+/// Slots of the parameters, of the return, and the list; what can't be read is `-`.
+fn lenient(text: &str) -> Vec<u8> {
+    let (slots, list) = match Wrapped::parameters(text) {
+        Some((names, slots)) => (slots.to_string(), names.join(", ")),
+        None => ("-".to_string(), String::new()),
+    };
+    let returned = Wrapped::return_slots(text).map_or("-".to_string(), |slots| slots.to_string());
+    format!("{slots} {returned} {list}").into_bytes()
+}
+
+/// The refusal, or 0 and the numbers.
+fn strict(answer: Result<Vec<u64>, u32>) -> Vec<u8> {
+    match answer {
+        Err(refusal) => refusal.to_string().into_bytes(),
+        Ok(numbers) => numbers.iter().fold("0".to_string(), |text, number| format!("{text} {number}")).into_bytes(),
+    }
 }
 
 /// Compares the two sides on the rows, and the Rust with what the rows say.

@@ -1,8 +1,7 @@
-//! A stored sample: inputs with the Rust's own answers, for a program that runs where the Rust is not at hand. It has only inputs
-//! of which no listed difference holds.
-//!
-//! A record is a byte for its kind, then the input and the expected text, each behind its length in two bytes, high byte first.
-use crate::descriptors::{made, STRICT_WRAPPED};
+//! Rows of data with the Rust's own answers, for the program `replay`, which runs where the Rust is not at hand: a sample of cases
+//! and descriptors of which no listed difference holds, and every short text over eight letters for the strict readers.
+//! crates/replay/README.md says how rows are written.
+use crate::descriptors::{made, Strict, STRICT_WRAPPED};
 use crate::layout::{self, Wrong};
 use crate::make;
 use crate::random::Random;
@@ -29,12 +28,48 @@ const OUTPUT: usize = 256;
 const LONGEST: usize = 512;
 const USUAL: usize = 60;
 
-fn put(to: &mut Vec<u8>, kind: u8, input: &[u8], expected: &[u8]) {
-    to.push(kind);
-    for text in [input, expected] {
-        to.extend((text.len() as u16).to_be_bytes());
-        to.extend(text);
+/// The letters of the short texts.
+const LETTERS: &[u8; 8] = b"()[;ILVa";
+
+/// How many numbers a digest's readers are lent, and its modulus.
+const LENT: usize = 12;
+const MODULUS: u64 = 4_294_967_291;
+
+/// A row: its fields, the answer that it holds, which is the Rust's, and what the library says.
+pub struct Row {
+    fields: String,
+    answer: Vec<u8>,
+    said: Vec<u8>,
+}
+
+impl Row {
+    /// A row is a line, so none has an answer with a newline.
+    fn is_a_line(&self) -> bool {
+        !self.answer.contains(&b'\n')
     }
+
+    pub fn agrees(&self) -> bool {
+        self.answer == self.said
+    }
+}
+
+/// The file of some rows.
+pub fn file(remark: &str, rows: &[Row]) -> Vec<u8> {
+    let lines = rows.iter().flat_map(|row| [row.fields.as_bytes(), b" => ", &row.answer, b"\n"].concat());
+    remark.bytes().chain(lines).collect()
+}
+
+/// Bytes as rows have them: what can stand in a text as a text, the others in digits.
+fn spelled(bytes: &[u8]) -> String {
+    let plain = |byte: &u8| byte.is_ascii_graphic() && !b"\"*|=".contains(byte);
+    let item = |run: &[u8]| match std::str::from_utf8(run) {
+        Ok(text) if run.iter().all(plain) => format!("\"{text}\""),
+        _ => format!("{:02x}", run[0]),
+    };
+    if bytes.is_empty() {
+        return "\"\"".to_string();
+    }
+    bytes.chunk_by(|a, b| plain(a) && plain(b)).map(item).collect::<Vec<_>>().join(" ")
 }
 
 /// The line that the program `npe` would print with these spaces.
@@ -49,17 +84,23 @@ pub fn line(answer: Answer) -> Vec<u8> {
     }
 }
 
-/// The line of a case and its sort; `None` where a listed difference holds of it.
-fn expected_line(bytes: &[u8]) -> Option<(Vec<u8>, usize)> {
-    match layout::read(bytes) {
-        Err(Wrong::TooLong) => None,
-        Err(Wrong::At(at)) => Some((line(Answer::Broken { at: at as u64 }), 3)),
+/// The row of a case and its sort; `None` where a listed difference holds of it.
+fn case(bytes: &[u8]) -> Option<(Row, usize)> {
+    let (answer, sort) = match layout::read(bytes) {
+        Err(Wrong::TooLong) => return None,
+        Err(Wrong::At(at)) => (line(Answer::Broken { at: at as u64 }), 3),
         Ok(parts) => {
             let facts = Facts::of(&parts);
+            if facts.listed() {
+                return None;
+            }
             let answer = facts.answer(ROOM, OUTPUT);
-            (!facts.listed()).then(|| (line(answer), sort(&answer)))
+            (line(answer), sort(&answer))
         }
-    }
+    };
+    let fields = format!("report | {} | {ROOM} | {OUTPUT}", spelled(bytes));
+    let said = line(korsepal::report(bytes, &mut [0; ROOM], &mut [0; OUTPUT]));
+    Some((Row { fields, answer, said }, sort))
 }
 
 /// The place of an answer in `CASES`.
@@ -75,117 +116,150 @@ fn sort(answer: &Answer) -> usize {
 }
 
 /// Cases of every kind until there are enough of each sort; short ones for the most part, and longer ones that tell of room.
-fn put_cases(to: &mut Vec<u8>, random: &mut Random) {
+fn cases(random: &mut Random) -> Vec<Row> {
     let mut left = CASES;
+    let mut rows = Vec::new();
     while left.iter().any(|&left| left > 0) {
         let (_, _, make) = make::KINDS[random.below(make::KINDS.len())];
         let bytes = make(random);
         if bytes.len() > LONGEST {
             continue;
         }
-        let Some((line, sort)) = expected_line(&bytes) else { continue };
+        let Some((row, sort)) = case(&bytes) else { continue };
         let wanted = bytes.len() <= USUAL || sort >= 4 || random.once_in(200);
-        if wanted && left[sort] > 0 {
+        if wanted && left[sort] > 0 && row.is_a_line() {
             left[sort] -= 1;
-            put(to, 0, &bytes, &line);
+            rows.push(row);
         }
     }
+    rows
 }
 
-/// Slots of the parameters, of the return, and the list; what can't be read is `-`.
-pub fn lenient(text: &str) -> Vec<u8> {
-    let (slots, list) = match Wrapped::parameters(text) {
-        Some((names, slots)) => (slots.to_string(), names.join(", ")),
-        None => ("-".to_string(), String::new()),
+/// What a lenient reader says: the parameters and their slots, the slots of the return, those as a field.
+fn lenient_text(parameters: Option<(&[u8], u64)>, returned: Option<u64>, field: u64) -> Vec<u8> {
+    let (list, slots) = match parameters {
+        Some((list, slots)) => ([b"(", list, b"), "].concat(), format!("slots {slots}")),
+        None => (Vec::new(), "unreadable".to_string()),
     };
-    let returned = Wrapped::return_slots(text).map_or("-".to_string(), |slots| slots.to_string());
-    format!("{slots} {returned} {list}").into_bytes()
+    let returned = returned.map_or("no return".to_string(), |slots| format!("return {slots}"));
+    [list, format!("{slots}, {returned}, field {field}").into_bytes()].concat()
 }
 
-/// The refusal, or 0 and the numbers.
-pub fn strict(answer: Result<Vec<u64>, u32>) -> Vec<u8> {
-    match answer {
-        Err(refusal) => refusal.to_string().into_bytes(),
-        Ok(numbers) => numbers.iter().fold("0".to_string(), |text, number| format!("{text} {number}")).into_bytes(),
-    }
+/// The row of a descriptor read leniently.
+fn lenient(text: &str) -> Row {
+    let (input, mut output) = (text.as_bytes(), [0; 8 * LONGEST]);
+    let read = Wrapped::parameters(text).map(|(names, slots)| (names.join(", ").into_bytes(), slots as u64));
+    let parameters = read.as_ref().map(|(list, slots)| (&list[..], *slots));
+    let returned = Wrapped::return_slots(text).map(|slots| slots as u64);
+    let answer = lenient_text(parameters, returned, Wrapped::field_slots(input) as u64);
+    let parameters = match korsepal::parameters(input, &mut output) {
+        Parameters::Read { list, slots } => Some((list, slots)),
+        _ => None,
+    };
+    let said = lenient_text(parameters, korsepal::return_slots(input).map(u64::from), korsepal::field_slots(input).map_or(0, u64::from));
+    Row { fields: format!("descriptor | {}", spelled(input)), answer, said }
 }
 
-/// Descriptors for one reader; of each refusal and count of slots no more than some.
-fn put_descriptors(to: &mut Vec<u8>, random: &mut Random, kind: u8, expected: fn(&str) -> Vec<u8>) {
-    let mut count = 0;
+/// What a strict reader answers over a buffer of so many sevens.
+type Read = fn(&[u8], &mut [u64]) -> Result<u64, u32>;
+
+/// What the Rust's reader would answer there: 14 where the numbers do not fit.
+fn read_by(reader: fn(&str) -> Result<Vec<u64>, u32>, text: &str, numbers: &mut [u64]) -> Result<u64, u32> {
+    let read = reader(text)?;
+    numbers.get_mut(..read.len()).ok_or(14u32)?.copy_from_slice(&read);
+    Ok(read.len() as u64 / 4)
+}
+
+fn strict_text(answer: Result<u64, u32>, numbers: &[u64]) -> Vec<u8> {
+    let head = answer.map_or_else(|refusal| format!("{refusal} |"), |count| format!("0 {count} |"));
+    numbers.iter().fold(head, |text, number| format!("{text} {number}")).into_bytes()
+}
+
+/// The row of a text read strictly, over as many numbers as its types have, and four where it has none.
+fn strict(kind: &str, text: &str, rust: fn(&str) -> Result<Vec<u64>, u32>, library: Read) -> Row {
+    let lent = rust(text).map_or(4, |numbers| numbers.len());
+    let mut numbers = vec![7; lent];
+    let answer = strict_text(read_by(rust, text, &mut numbers), &numbers);
+    let mut numbers = vec![7; lent];
+    let said = strict_text(library(text.as_bytes(), &mut numbers), &numbers);
+    Row { fields: format!("{kind} | {} | {lent}", spelled(text.as_bytes())), answer, said }
+}
+
+fn strict_type(text: &str) -> Row {
+    strict("type", text, STRICT_WRAPPED.as_type, korsepal::parse_type)
+}
+
+fn strict_method(text: &str) -> Row {
+    strict("method", text, STRICT_WRAPPED.as_method, korsepal::parse_method)
+}
+
+/// Descriptors for one reader; of answers that begin alike no more than some.
+fn descriptors(random: &mut Random, row_of: fn(&str) -> Row) -> Vec<Row> {
+    let mut rows = Vec::new();
     let mut answers: HashMap<Vec<u8>, usize> = HashMap::new();
-    while count < DESCRIPTORS {
+    while rows.len() < DESCRIPTORS {
         let (_, bytes) = made(random);
         let Ok(text) = std::str::from_utf8(&bytes) else { continue };
         if bytes.len() > USUAL && !random.once_in(20) {
             continue;
         }
-        let expected = expected(text);
-        let first = expected.split(|&byte| byte == b' ').next().unwrap_or_default().to_vec();
+        let row = row_of(text);
+        let first = row.answer.split(|&byte| byte == b' ').next().unwrap_or_default().to_vec();
         let of_answer = answers.entry(first).or_default();
-        if *of_answer < OF_ONE_ANSWER {
+        if *of_answer < OF_ONE_ANSWER && row.is_a_line() {
             *of_answer += 1;
-            count += 1;
-            put(to, kind, &bytes, &expected);
+            rows.push(row);
         }
     }
+    rows
 }
 
-/// The library's text for an input of a kind.
-fn library_text(kind: u8, input: &[u8]) -> Vec<u8> {
-    let mut numbers = [0; 4 * LONGEST];
-    let mut output = [0; 8 * LONGEST];
-    let mut read = |reader: fn(&[u8], &mut [u64]) -> Result<u64, u32>| {
-        let count = reader(input, &mut numbers)?;
-        Ok(numbers[..4 * count as usize].to_vec())
-    };
-    match kind {
-        0 => line(korsepal::report(input, &mut [0; ROOM], &mut [0; OUTPUT])),
-        1 => {
-            let (slots, list) = match korsepal::parameters(input, &mut output) {
-                Parameters::Read { list, slots } => (slots.to_string(), list),
-                _ => ("-".to_string(), &[][..]),
-            };
-            let returned = korsepal::return_slots(input).map_or("-".to_string(), |slots| slots.to_string());
-            [format!("{slots} {returned} ").as_bytes(), list].concat()
-        }
-        2 => strict(read(korsepal::parse_type)),
-        _ => strict(read(korsepal::parse_method)),
-    }
-}
-
-/// The records of a sample by kind, and how many of them the library answers otherwise.
-pub fn check(sample: &[u8]) -> ([usize; 4], usize) {
-    let mut left = sample;
-    let mut text = |count: usize| {
-        let (taken, rest) = left.split_at(count);
-        left = rest;
-        taken
-    };
-    let mut counts = [0; 4];
-    let mut others = 0;
-    let mut at = 0;
-    while at < sample.len() {
-        let kind = text(1)[0];
-        let mut behind_length = || {
-            let length = text(2);
-            text(usize::from(u16::from_be_bytes([length[0], length[1]])))
-        };
-        let (input, expected) = (behind_length(), behind_length());
-        at += 5 + input.len() + expected.len();
-        counts[usize::from(kind)] += 1;
-        others += usize::from(library_text(kind, input) != expected);
-    }
-    (counts, others)
-}
-
-/// The bytes of the sample.
-pub fn sample(seed: u64) -> Vec<u8> {
+/// The rows of the sample.
+pub fn sample(seed: u64) -> Vec<Row> {
     let mut random = Random::new(seed);
-    let mut to = Vec::new();
-    put_cases(&mut to, &mut random);
-    put_descriptors(&mut to, &mut random, 1, lenient);
-    put_descriptors(&mut to, &mut random, 2, |text| strict((STRICT_WRAPPED.as_type)(text)));
-    put_descriptors(&mut to, &mut random, 3, |text| strict((STRICT_WRAPPED.as_method)(text)));
-    to
+    let mut rows = cases(&mut random);
+    for row_of in [lenient, strict_type, strict_method] {
+        rows.extend(descriptors(&mut random, row_of));
+    }
+    rows
+}
+
+/// The texts of so many of the letters, in their order.
+fn short_texts(letters: u32) -> impl Iterator<Item = String> {
+    let text = move |number: usize| (0..letters).rev().map(|place| LETTERS[number >> (3 * place) & 7] as char).collect();
+    (0..8usize.pow(letters)).map(text)
+}
+
+/// One number for what two readers answer and write on the texts with three letters more.
+fn digest(beginning: &str, mut readers: impl FnMut(&str, bool, &mut [u64]) -> Result<u64, u32>) -> Vec<u8> {
+    let stir = |mixed: u64, number: u64| (mixed * 31 + number % MODULUS) % MODULUS;
+    let mut mixed = 0;
+    for end in short_texts(3) {
+        for as_method in [false, true] {
+            let mut numbers = [7; LENT];
+            let answer = readers(&format!("{beginning}{end}"), as_method, &mut numbers);
+            mixed = stir(mixed, answer.map_or_else(u64::from, |count| 15 + count % 1000));
+            mixed = numbers.into_iter().fold(mixed, stir);
+        }
+    }
+    mixed.to_string().into_bytes()
+}
+
+/// The row of a beginning's digest.
+fn digested(beginning: &str) -> Row {
+    let Strict { as_type, as_method } = STRICT_WRAPPED;
+    let rust = |text: &str, method, numbers: &mut [u64]| read_by(if method { as_method } else { as_type }, text, numbers);
+    let library = |text: &str, method, numbers: &mut [u64]| {
+        let read: Read = if method { korsepal::parse_method } else { korsepal::parse_type };
+        read(text.as_bytes(), numbers)
+    };
+    let fields = format!("digest | {} | 3 | 512", spelled(beginning.as_bytes()));
+    Row { fields, answer: digest(beginning, rust), said: digest(beginning, library) }
+}
+
+/// Every text of up to three letters by itself, and those of four to six by their beginnings.
+pub fn short() -> Vec<Row> {
+    let texts = (0..=3).flat_map(short_texts).flat_map(|text| [strict_type(&text), strict_method(&text)]);
+    let digests = (1..=3).flat_map(short_texts).map(|beginning| digested(&beginning));
+    texts.chain(digests).collect()
 }

@@ -257,14 +257,14 @@ fn form_at<'a>(kinds: &'a [u8], kind: usize, number: usize) -> &'a [u8] {
     part_at(line, at, b';')
 }
 
-// A shape has a letter for each field behind the kind: x and y for bytes, a, b, c and d for numbers, - for a remark. The place of
-// a field's value among the values.
+// A shape has a letter for each field behind the kind: x and y for bytes, f and g for the names of files that hold them, a, b, c and
+// d for numbers, - for a remark. The place of a field's value among the values.
 fn place_of(letter: u8) -> usize
     ensures { λ r. ⌜ r < 7 ⌝ }
 {
     match letter {
-        b'x' => 0,
-        b'y' => 1,
+        b'x' | b'f' => 0,
+        b'y' | b'g' => 1,
         b'a' => 2,
         b'b' => 3,
         b'c' => 4,
@@ -273,10 +273,17 @@ fn place_of(letter: u8) -> usize
     }
 }
 
+// A name between two spaces.
+fn name_in<'a>(field: &'a [u8]) -> &'a [u8] {
+    part_at(field, 1, b' ')
+}
+
 fn read_field(letter: u8, field: &[u8], x: &mut [u8], y: &mut [u8]) -> Value {
     match letter {
         b'x' => read_bytes(x, field),
         b'y' => read_bytes(y, field),
+        b'f' => Value::Of(read_file(x, name_in(field))),
+        b'g' => Value::Of(read_file(y, name_in(field))),
         b'-' => Value::Of(0),
         _ => read_decimal(field),
     }
@@ -319,7 +326,7 @@ fn put_part(out: &mut [u8], at: usize, part: &[u8], text: &[u8]) -> usize {
 
 // Writes a form over the start of an output, with numbers behind the first of some for its number signs, and a text for its
 // dollar sign. Answers the form's end.
-pub fn put_form(out: &mut [u8], form: &[u8], numbers: &[usize], text: &[u8]) -> usize {
+fn put_form(out: &mut [u8], form: &[u8], numbers: &[usize], text: &[u8]) -> usize {
     let mut at = 0;
     let mut end = 0;
     let mut i = 1;
@@ -386,9 +393,10 @@ pub fn is_answered(kinds: &[u8], row: &[u8], told: &[usize; 14], text: &[u8]) ->
 
 // Prints how many rows of a file agree.
 pub fn say_agreed(name: &[u8], agreed: usize) {
-    let mut out = [0u8; 128];
-    let end = put_form(&mut out, b"$: # rows agree\n", &[0, agreed, 0], name);
-    say(between(&out, 0, end));
+    say(name);
+    say(b": ");
+    io::print_decimal(STDOUT_FILENO, agreed as u64);
+    say(b" rows agree\n");
 }
 
 // Reads a file into the start of a buffer. Answers its length, 0 where it can't be read; a file that fills the buffer is too long.

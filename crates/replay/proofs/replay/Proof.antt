@@ -1,37 +1,39 @@
--- `replay::replay` meets its contract. Each turn counts one record at most, and there are no more turns than bytes.
+-- `replay::replay` meets its contract. Each turn counts one row at most, and there are no more turns than bytes.
 -- Assumes nothing.
 use Prim.Native.Nat.{_+_, _≤_}
+use mathlib.Core.Path.{_≡_}
 use lib.ListN.{length}
 use borrow.Author.Needs.{needs}
 use Rattle.replay.proofs.replay.Statement.{statement}
 use Rattle.replay.proofs.replay.Tie as tie
 
 abbrev Inv-loop : tie.InvT-loop
-Inv-loop sample of at₀ agreed₀ left₀ at agreed left = agreed + left ≤ length sample
+Inv-loop file buffer₀ at₀ members₀ agreeing₀ left₀ buffer at members agreeing left =
+    (agreeing + left ≤ length file) × (length buffer ≡ length buffer₀)
 
 abbrev μ-loop : tie.MeasureT-loop
-μ-loop sample of at₀ agreed₀ left₀ at agreed left = left
+μ-loop file buffer₀ at₀ members₀ agreeing₀ left₀ buffer at members agreeing left = left
 
 loop-holds : tie.Need-loop-holds Inv-loop μ-loop
 loop-holds c = search needs
 
-record-at-requires : tie.Need-record-at-requires Inv-loop μ-loop
-record-at-requires c κs = search needs
+part-at-requires : tie.Need-part-at-requires Inv-loop μ-loop
+part-at-requires c κs = search needs
 
-enum-known-kind : tie.Need-enum-known-kind Inv-loop μ-loop
-enum-known-kind c = search needs
+later-requires : tie.Need-later-requires Inv-loop μ-loop
+later-requires c κs = search needs
 
-enum-told : tie.Need-enum-told Inv-loop μ-loop
-enum-told c = search needs
+part-at-requires-2 : tie.Need-part-at-requires-2 Inv-loop μ-loop
+part-at-requires-2 c κs = search needs
 
-returns : tie.Need-returns Inv-loop μ-loop
-returns c = search needs
+agreed-requires : tie.Need-agreed-requires Inv-loop μ-loop
+agreed-requires c κs = search needs
 
-counted-requires : tie.Need-counted-requires Inv-loop μ-loop
-counted-requires c κs = search needs
+add-agreeing : tie.Need-add-agreeing Inv-loop μ-loop
+add-agreeing c = search needs
 
-add-agreed : tie.Need-add-agreed Inv-loop μ-loop
-add-agreed c = search needs
+after-requires : tie.Need-after-requires Inv-loop μ-loop
+after-requires c κs = search needs
 
 sub-left : tie.Need-sub-left Inv-loop μ-loop
 sub-left c = search needs
@@ -42,8 +44,11 @@ loop-less c = search needs
 loop-again : tie.Need-loop-again Inv-loop μ-loop
 loop-again c = search needs
 
-returns-2 : tie.Need-returns-2 Inv-loop μ-loop
-returns-2 c = search needs
+same-length : tie.Need-same-length Inv-loop μ-loop
+same-length c = search needs
+
+returns : tie.Need-returns Inv-loop μ-loop
+returns c = search needs
 
 pub replay-spec : {M : Type 1} → statement M
 replay-spec =
@@ -52,13 +57,14 @@ replay-spec =
     Inv-loop
     μ-loop
     loop-holds
-    record-at-requires
-    enum-known-kind
-    enum-told
-    returns
-    counted-requires
-    add-agreed
+    part-at-requires
+    later-requires
+    part-at-requires-2
+    agreed-requires
+    add-agreeing
+    after-requires
     sub-left
     loop-less
     loop-again
-    returns-2)
+    same-length
+    returns)
