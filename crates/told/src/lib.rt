@@ -21,7 +21,8 @@ pub fn nothing() -> Told {
     told(9, 0, 0, 0)
 }
 
-// What the library answers to the fields of a row of the first twelve kinds.
+// What the library answers to the fields of a row of one of the first twelve kinds in the list of `replay`, where a kind's place is its
+// number.
 pub fn tell(out: &mut [u8], kind: usize, x: &[u8], y: &[u8], a: usize, b: usize, c: usize) -> Told {
     if kind < 3 {
         return strict_rows::tell(out, kind, x, a, b);
