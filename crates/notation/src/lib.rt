@@ -8,12 +8,17 @@
 // star before either repeat it: 255*"[" "I". No bytes are "". A space, a star, a bar or an equals sign in a text is written in
 // digits.
 use check::same;
+use fieldtype::Found;
+use fieldtype::find_byte;
+use items::part_at;
 use libc::STDOUT_FILENO;
 use text::put_at;
 use text::put_decimal_at;
 use text::sum;
 ghost use Prim.Native.Nat.{_≤_, _<_};
-ghost use lib.ListN.{length};
+ghost use mathlib.Core.Path.{_≡_};
+ghost use lib.ListN.{take};
+ghost use Rattle.notation.specs.Parts.{partTo, behind, isRow};
 
 // What a field is read as: a number, or how many bytes were read.
 pub enum Value {
@@ -21,18 +26,10 @@ pub enum Value {
     Wrong,
 }
 
-// A part of a text, none where the places lie outside it.
-pub fn between<'a>(text: &'a [u8], from: usize, to: usize) -> &'a [u8] {
-    if to <= text.len() {
-        if from <= to {
-            return &text[from..to];
-        }
-    }
-    &text[..0]
-}
-
 // The first bytes of an output, all where it has fewer.
-pub fn first_bytes<'a>(out: &'a mut [u8], count: usize) -> &'a mut [u8] {
+pub fn first_bytes<'a>(out: &'a mut [u8], count: usize) -> &'a mut [u8]
+    ensures { λ r. ⌜ now r ≡ take count (now (out .entry)) ⌝ }
+{
     if count <= out.len() {
         return &mut out[..count];
     }
@@ -40,58 +37,60 @@ pub fn first_bytes<'a>(out: &'a mut [u8], count: usize) -> &'a mut [u8] {
 }
 
 // The first of some numbers, all where there are fewer.
-pub fn first_numbers<'a>(numbers: &'a mut [u64], count: usize) -> &'a mut [u64] {
+pub fn first_numbers<'a>(numbers: &'a mut [u64], count: usize) -> &'a mut [u64]
+    ensures { λ r. ⌜ now r ≡ take count (now (numbers .entry)) ⌝ }
+{
     if count <= numbers.len() {
         return &mut numbers[..count];
     }
     numbers
 }
 
-// The place of the first such byte from a place on, or the text's end.
-fn find(text: &[u8], from: usize, byte: u8) -> usize
-    ensures { λ r. ⌜ r ≤ length (now (text .entry)) ⌝ }
-{
-    let mut i = from;
-    while i < text.len() {
-        if text[i] == byte {
-            return i;
-        }
-        i += 1;
-    }
-    text.len()
-}
-
 // The part of a text from a place to the next such byte, or to the end.
-pub fn part_at<'a>(text: &'a [u8], at: usize, byte: u8) -> &'a [u8] {
-    between(text, at, find(text, at, byte))
+pub fn part_to<'a>(text: &'a [u8], at: usize, byte: u8) -> &'a [u8]
+    ensures { λ r. ⌜ now r ≡ partTo byte (now (text .entry)) at ⌝ }
+{
+    let Found::At(end) = find_byte(text, byte, at) else {
+        return part_at(text, at, text.len());
+    };
+    part_at(text, at, end - at)
 }
 
 // The place behind such a part and its byte.
-pub fn after(at: usize, part: &[u8]) -> usize {
+pub fn after(at: usize, part: &[u8]) -> usize
+    ensures { λ r. ⌜ r ≡ behind at (now (part .entry)) ⌝ }
+{
     sum(at, sum(part.len(), 1))
 }
 
 // Whether a line is a row.
-pub fn is_row(line: &[u8]) -> bool {
+pub fn is_row(line: &[u8]) -> bool
+    ensures { λ r. ⌜ r ≡ isRow (now (line .entry)) ⌝ }
+{
     if line.len() == 0 {
         return false;
     }
-    line[0] != b'#'
+    if line[0] == b'#' {
+        return false;
+    }
+    true
 }
 
 // The fields of a row, all before its arrow.
 fn fields<'a>(row: &'a [u8]) -> &'a [u8] {
-    part_at(row, 0, b'=')
+    part_to(row, 0, b'=')
 }
 
 // The answer behind the arrow and a space, nothing where the row has none.
 fn answer<'a>(row: &'a [u8]) -> &'a [u8] {
-    between(row, sum(find(row, 0, b'='), 3), row.len())
+    part_at(row, sum(fields(row).len(), 3), row.len())
 }
 
 // The kind of a row.
-pub fn kind_of<'a>(row: &'a [u8]) -> &'a [u8] {
-    part_at(row, 0, b' ')
+pub fn kind_of<'a>(row: &'a [u8]) -> &'a [u8]
+    ensures { λ r. ⌜ now r ≡ partTo 32 (now (row .entry)) 0 ⌝ }
+{
+    part_to(row, 0, b' ')
 }
 
 // The value of a hexadecimal digit, 16 for any other byte.
@@ -169,7 +168,7 @@ fn put_item(out: &mut [u8], at: usize, item: &[u8], times: usize) -> usize {
     }
     if item[0] == b'"' {
         if item[size - 1] == b'"' {
-            return put_times(out, at, between(item, 1, size - 1), times);
+            return put_times(out, at, part_at(item, 1, size - 2), times);
         }
         return NOWHERE;
     }
@@ -187,14 +186,14 @@ fn put_word(out: &mut [u8], at: usize, word: &[u8]) -> usize {
     if word.len() == 0 {
         return at;
     }
-    let count = part_at(word, 0, b'*');
+    let count = part_to(word, 0, b'*');
     if count.len() == word.len() {
         return put_item(out, at, word, 1);
     }
     let Value::Of(times) = read_decimal(count) else {
         return NOWHERE;
     };
-    put_item(out, at, between(word, after(0, count), word.len()), times)
+    put_item(out, at, part_at(word, after(0, count), word.len()), times)
 }
 
 // Reads written bytes into the start of an output. There are no more words than bytes of text; behind the last there is nothing.
@@ -203,7 +202,7 @@ fn read_bytes(out: &mut [u8], text: &[u8]) -> Value {
     let mut end = 0;
     let mut left = text.len();
     while 0 < left {
-        let word = part_at(text, at, b' ');
+        let word = part_to(text, at, b' ');
         end = put_word(out, end, word);
         at = after(at, word);
         left -= 1;
@@ -228,8 +227,8 @@ fn kind_in(kinds: &[u8], name: &[u8]) -> Kind {
     let mut at: usize = 0;
     let mut left = kinds.len();
     while 0 < left {
-        let line = part_at(kinds, at, b'\n');
-        if same(part_at(line, 0, b' '), name) {
+        let line = part_to(kinds, at, b'\n');
+        if same(part_to(line, 0, b' '), name) {
             return Kind { number, at };
         }
         number += 1;
@@ -241,20 +240,20 @@ fn kind_in(kinds: &[u8], name: &[u8]) -> Kind {
 
 // The shape that the kind at a place of a list has.
 fn shape_at<'a>(kinds: &'a [u8], at: usize) -> &'a [u8] {
-    let name = part_at(kinds, at, b' ');
-    part_at(kinds, after(at, name), b' ')
+    let name = part_to(kinds, at, b' ');
+    part_to(kinds, after(at, name), b' ')
 }
 
 // The form of the answer with a number, nothing where there is none.
 fn form_at<'a>(kinds: &'a [u8], kind: usize, number: usize) -> &'a [u8] {
-    let line = part_at(kinds, kind, b'\n');
-    let mut at = after(0, part_at(line, 0, b'|'));
+    let line = part_to(kinds, kind, b'\n');
+    let mut at = after(0, part_to(line, 0, b'|'));
     let mut left = number;
     while 0 < left {
-        at = after(at, part_at(line, at, b';'));
+        at = after(at, part_to(line, at, b';'));
         left -= 1;
     }
-    part_at(line, at, b';')
+    part_to(line, at, b';')
 }
 
 // A shape has a letter for each field behind the kind: x and y for bytes, f and g for the names of files that hold them, a, b, c and
@@ -275,7 +274,7 @@ fn place_of(letter: u8) -> usize
 
 // A name between two spaces.
 fn name_in<'a>(field: &'a [u8]) -> &'a [u8] {
-    part_at(field, 1, b' ')
+    part_to(field, 1, b' ')
 }
 
 fn read_field(letter: u8, field: &[u8], x: &mut [u8], y: &mut [u8]) -> Value {
@@ -298,11 +297,11 @@ fn read_fields(
     y: &mut [u8],
 ) -> bool {
     // The place of the bar before a field, at last the end.
-    let mut bar = find(fields, 0, b'|');
+    let mut bar = part_to(fields, 0, b'|').len();
     let mut i = 0;
     while i < shape.len() {
         let letter = shape[i];
-        let field = part_at(fields, sum(bar, 1), b'|');
+        let field = part_to(fields, sum(bar, 1), b'|');
         let Value::Of(n) = read_field(letter, field, x, y) else {
             return false;
         };
@@ -315,13 +314,13 @@ fn read_fields(
 
 // Writes a part of a form from a place on, with a text for its dollar sign.
 fn put_part(out: &mut [u8], at: usize, part: &[u8], text: &[u8]) -> usize {
-    let head = part_at(part, 0, b'$');
+    let head = part_to(part, 0, b'$');
     let end = put_at(out, at, head);
     if head.len() == part.len() {
         return end;
     }
     let next = put_at(out, end, text);
-    put_at(out, next, between(part, after(0, head), part.len()))
+    put_at(out, next, part_at(part, after(0, head), part.len()))
 }
 
 // Writes a form over the start of an output, with numbers behind the first of some for its number signs, and a text for its
@@ -331,7 +330,7 @@ fn put_form(out: &mut [u8], form: &[u8], numbers: &[usize], text: &[u8]) -> usiz
     let mut end = 0;
     let mut i = 1;
     while i < numbers.len() {
-        let part = part_at(form, at, b'#');
+        let part = part_to(form, at, b'#');
         end = put_part(out, end, part, text);
         at = after(at, part);
         if form.len() < at {
@@ -378,12 +377,12 @@ pub fn is_answered(kinds: &[u8], row: &[u8], told: &[usize; 14], text: &[u8]) ->
     let kind = kind_in(kinds, kind_of(row));
     let form = form_at(kinds, kind.at, told[0]);
     let mut out = [0u8; 2048];
-    let end = put_form(&mut out, form, told, between(text, 0, told[13]));
+    let end = put_form(&mut out, form, told, part_at(text, 0, told[13]));
     if end == 0 {
         say_difference(row, b"by nothing, for it can't be read");
         return false;
     }
-    let answered = between(&out, 0, end);
+    let answered = part_at(&out, 0, end);
     if same(answered, answer(row)) {
         return true;
     }

@@ -5,12 +5,12 @@ mod code_rows;
 mod report_rows;
 
 use check::same;
+use items::part_at;
 use notation::after;
-use notation::between;
 use notation::is_answered;
 use notation::is_row;
 use notation::kind_of;
-use notation::part_at;
+use notation::part_to;
 use notation::read_file;
 use notation::read_row;
 use notation::say_agreed;
@@ -68,8 +68,8 @@ fn agrees(list: &[u8], row: &[u8], members: &[u8], x: &mut [u8]) -> bool {
     let told = tell(
         &mut text,
         kind,
-        between(x, 0, v[0]),
-        between(&y, 0, v[1]),
+        part_at(x, 0, v[0]),
+        part_at(&y, 0, v[1]),
         v[2],
         v[3],
         v[4],
@@ -105,9 +105,9 @@ fn replay(file: &[u8], buffer: &mut [u8]) -> usize {
     let mut agreeing: usize = 0;
     let mut left = file.len();
     while 0 < left {
-        let line = part_at(file, at, b'\n');
+        let line = part_to(file, at, b'\n');
         members = later(line, at, members);
-        agreeing += agreed(line, part_at(file, members, b'\n'), buffer);
+        agreeing += agreed(line, part_to(file, members, b'\n'), buffer);
         at = after(at, line);
         left -= 1;
     }
@@ -128,7 +128,7 @@ fn show(name: &[u8]) {
     let mut file = file_room();
     let mut case = case_room();
     let size = read_file(&mut file, name);
-    say_agreed(name, replay(between(&file, 0, size), &mut case));
+    say_agreed(name, replay(part_at(&file, 0, size), &mut case));
 }
 
 fn show_named(name: &[u8]) {
@@ -142,7 +142,7 @@ fn show_all(names: &[u8]) {
     let mut at: usize = 0;
     let mut left = names.len();
     while 0 < left {
-        let name = part_at(names, at, b'\n');
+        let name = part_to(names, at, b'\n');
         show_named(name);
         at = after(at, name);
         left -= 1;

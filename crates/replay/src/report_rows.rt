@@ -1,7 +1,7 @@
 // Rows on whole cases: the lines that the program prints.
 use answer::Report;
 use check::same;
-use notation::between;
+use items::part_at;
 use notation::first_bytes;
 use notation::first_numbers;
 use text::put_at;
@@ -23,7 +23,7 @@ fn put_line(out: &mut [u8], case: &[u8], stack: &mut [u64], message: &mut [u8]) 
     else {
         return end;
     };
-    put_at(out, end, between(message, 0, length))
+    put_at(out, end, part_at(message, 0, length))
 }
 
 // The line with so many cells and bytes lent, at most those that the program lends.
@@ -48,7 +48,7 @@ fn example(out: &mut [u8], case: &[u8], stored: &[u8]) -> Told {
     let end = put_report(out, case, 4096, 16384);
     let line = put_at(out, end, b"\n");
     if 0 < stored.len() {
-        if same(between(out, 0, line), stored) {
+        if same(part_at(out, 0, line), stored) {
             return told(0, 0, 0, 0);
         }
     }

@@ -3,8 +3,8 @@ use crate::Told;
 use crate::nothing;
 use crate::told;
 use crate::told_with;
+use items::part_at;
 use judging::Answer;
-use notation::between;
 use notation::first_numbers;
 use text::put_at;
 use text::put_decimal_at;
@@ -98,8 +98,8 @@ fn stirred(text: &mut [u8], first: usize, end: usize, count: usize) -> u64 {
     let mut k = 0;
     while k < count {
         spell(text, first, end, k);
-        let types = stir_one(false, mixed, between(text, 0, end));
-        mixed = stir_one(true, types, between(text, 0, end));
+        let types = stir_one(false, mixed, part_at(text, 0, end));
+        mixed = stir_one(true, types, part_at(text, 0, end));
         k += 1;
     }
     mixed

@@ -1,7 +1,9 @@
--- `notation::first_bytes` meets its contract. The part has the length that it is lent with.
+-- `notation::first_bytes` meets its contract. The part has the length that it is lent with; where there is no more, it is all.
 -- Assumes nothing.
+use native.Mathlib.Omega.{arith}
 use mathlib.Core.Path.{sym}
-use lib.Seq.{length-take-le}
+use lib.Seq.{length-take-le, take-all}
+use denote.Ref.{now}
 use borrow.Author.Needs.{needs}
 use Rattle.notation.proofs.first_bytes.Statement.{statement}
 use Rattle.notation.proofs.first_bytes.Tie as tie
@@ -13,7 +15,9 @@ returns : tie.Need-returns
 returns c = search needs
 
 returns-2 : tie.Need-returns-2
-returns-2 c = search needs
+returns-2 c =
+    let a = c .before .args in
+    sym (take-all (a .count) (now (a .out)) (omega (arith, c .if1 .left)))
 
 pub first-bytes-spec : {M : Type 1} → statement M
 first-bytes-spec = tie.close (tie.spec slice-aggregate-result returns returns-2)

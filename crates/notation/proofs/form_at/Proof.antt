@@ -11,11 +11,11 @@ Inv-loop kinds kind number line at₀ left₀ at left = left ≤ number
 abbrev μ-loop : tie.MeasureT-loop
 μ-loop kinds kind number line at₀ left₀ at left = left
 
-part-at-requires : tie.Need-part-at-requires Inv-loop μ-loop
-part-at-requires c κs = search needs
+part-to-requires : tie.Need-part-to-requires Inv-loop μ-loop
+part-to-requires c κs = search needs
 
-part-at-requires-2 : tie.Need-part-at-requires-2 Inv-loop μ-loop
-part-at-requires-2 c κs = search needs
+part-to-requires-2 : tie.Need-part-to-requires-2 Inv-loop μ-loop
+part-to-requires-2 c κs = search needs
 
 after-requires : tie.Need-after-requires Inv-loop μ-loop
 after-requires c κs = search needs
@@ -23,8 +23,8 @@ after-requires c κs = search needs
 loop-holds : tie.Need-loop-holds Inv-loop μ-loop
 loop-holds c = search needs
 
-part-at-requires-3 : tie.Need-part-at-requires-3 Inv-loop μ-loop
-part-at-requires-3 c κs = search needs
+part-to-requires-3 : tie.Need-part-to-requires-3 Inv-loop μ-loop
+part-to-requires-3 c κs = search needs
 
 after-requires-2 : tie.Need-after-requires-2 Inv-loop μ-loop
 after-requires-2 c κs = search needs
@@ -38,8 +38,8 @@ loop-less c = search needs
 loop-again : tie.Need-loop-again Inv-loop μ-loop
 loop-again c = search needs
 
-part-at-requires-4 : tie.Need-part-at-requires-4 Inv-loop μ-loop
-part-at-requires-4 c κs = search needs
+part-to-requires-4 : tie.Need-part-to-requires-4 Inv-loop μ-loop
+part-to-requires-4 c κs = search needs
 
 returns : tie.Need-returns Inv-loop μ-loop
 returns c = search needs
@@ -50,14 +50,14 @@ form-at-spec =
     (tie.spec
     Inv-loop
     μ-loop
-    part-at-requires
-    part-at-requires-2
+    part-to-requires
+    part-to-requires-2
     after-requires
     loop-holds
-    part-at-requires-3
+    part-to-requires-3
     after-requires-2
     sub-left
     loop-less
     loop-again
-    part-at-requires-4
+    part-to-requires-4
     returns)

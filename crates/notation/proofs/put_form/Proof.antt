@@ -16,8 +16,8 @@ abbrev μ-loop : tie.MeasureT-loop
 loop-holds : tie.Need-loop-holds Inv-loop μ-loop
 loop-holds c = search needs
 
-part-at-requires : tie.Need-part-at-requires Inv-loop μ-loop
-part-at-requires c κs = search needs
+part-to-requires : tie.Need-part-to-requires Inv-loop μ-loop
+part-to-requires c κs = search needs
 
 put-part-requires : tie.Need-put-part-requires Inv-loop μ-loop
 put-part-requires c κs = search needs
@@ -62,7 +62,7 @@ put-form-spec =
     Inv-loop
     μ-loop
     loop-holds
-    part-at-requires
+    part-to-requires
     put-part-requires
     after-requires
     same-length

@@ -13,8 +13,8 @@ Inv-loop fields shape values₀ x₀ y₀ bar₀ i₀ values x y bar i = (i ≤ 
 abbrev μ-loop : tie.MeasureT-loop
 μ-loop fields shape values₀ x₀ y₀ bar₀ i₀ values x y bar i = length shape - i
 
-find-requires : tie.Need-find-requires Inv-loop μ-loop
-find-requires c κs = search needs
+part-to-requires : tie.Need-part-to-requires Inv-loop μ-loop
+part-to-requires c κs = search needs
 
 loop-holds : tie.Need-loop-holds Inv-loop μ-loop
 loop-holds c = search needs
@@ -25,8 +25,8 @@ shared-slice-read-letter c = search needs
 sum-requires : tie.Need-sum-requires Inv-loop μ-loop
 sum-requires c κs = search needs
 
-part-at-requires : tie.Need-part-at-requires Inv-loop μ-loop
-part-at-requires c κs = search needs
+part-to-requires-2 : tie.Need-part-to-requires-2 Inv-loop μ-loop
+part-to-requires-2 c κs = search needs
 
 read-field-requires : tie.Need-read-field-requires Inv-loop μ-loop
 read-field-requires c κs = search needs
@@ -82,11 +82,11 @@ read-fields-spec =
     (tie.spec
     Inv-loop
     μ-loop
-    find-requires
+    part-to-requires
     loop-holds
     shared-slice-read-letter
     sum-requires
-    part-at-requires
+    part-to-requires-2
     read-field-requires
     enum-known-n
     enum-told

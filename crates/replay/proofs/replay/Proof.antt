@@ -17,14 +17,14 @@ abbrev μ-loop : tie.MeasureT-loop
 loop-holds : tie.Need-loop-holds Inv-loop μ-loop
 loop-holds c = search needs
 
-part-at-requires : tie.Need-part-at-requires Inv-loop μ-loop
-part-at-requires c κs = search needs
+part-to-requires : tie.Need-part-to-requires Inv-loop μ-loop
+part-to-requires c κs = search needs
 
 later-requires : tie.Need-later-requires Inv-loop μ-loop
 later-requires c κs = search needs
 
-part-at-requires-2 : tie.Need-part-at-requires-2 Inv-loop μ-loop
-part-at-requires-2 c κs = search needs
+part-to-requires-2 : tie.Need-part-to-requires-2 Inv-loop μ-loop
+part-to-requires-2 c κs = search needs
 
 agreed-requires : tie.Need-agreed-requires Inv-loop μ-loop
 agreed-requires c κs = search needs
@@ -57,9 +57,9 @@ replay-spec =
     Inv-loop
     μ-loop
     loop-holds
-    part-at-requires
+    part-to-requires
     later-requires
-    part-at-requires-2
+    part-to-requires-2
     agreed-requires
     add-agreeing
     after-requires

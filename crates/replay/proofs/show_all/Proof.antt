@@ -15,8 +15,8 @@ abbrev μ-loop : tie.MeasureT-loop
 loop-holds : tie.Need-loop-holds Inv-loop μ-loop
 loop-holds c = search needs
 
-part-at-requires : tie.Need-part-at-requires Inv-loop μ-loop
-part-at-requires c κs = search needs
+part-to-requires : tie.Need-part-to-requires Inv-loop μ-loop
+part-to-requires c κs = search needs
 
 show-named-requires : tie.Need-show-named-requires Inv-loop μ-loop
 show-named-requires c κs = search needs
@@ -43,7 +43,7 @@ show-all-spec =
     Inv-loop
     μ-loop
     loop-holds
-    part-at-requires
+    part-to-requires
     show-named-requires
     after-requires
     sub-left

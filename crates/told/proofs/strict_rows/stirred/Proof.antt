@@ -19,14 +19,14 @@ loop-holds c = search needs
 spell-requires : tie.Need-spell-requires Inv-loop μ-loop
 spell-requires c κs = search needs
 
-between-requires : tie.Need-between-requires Inv-loop μ-loop
-between-requires c κs = search needs
+part-at-requires : tie.Need-part-at-requires Inv-loop μ-loop
+part-at-requires c κs = search needs
 
 stir-one-requires : tie.Need-stir-one-requires Inv-loop μ-loop
 stir-one-requires c κs = search needs
 
-between-requires-2 : tie.Need-between-requires-2 Inv-loop μ-loop
-between-requires-2 c κs = search needs
+part-at-requires-2 : tie.Need-part-at-requires-2 Inv-loop μ-loop
+part-at-requires-2 c κs = search needs
 
 stir-one-requires-2 : tie.Need-stir-one-requires-2 Inv-loop μ-loop
 stir-one-requires-2 c κs = search needs
@@ -54,9 +54,9 @@ stirred-spec =
     μ-loop
     loop-holds
     spell-requires
-    between-requires
+    part-at-requires
     stir-one-requires
-    between-requires-2
+    part-at-requires-2
     stir-one-requires-2
     add-k
     loop-less
