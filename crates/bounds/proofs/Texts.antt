@@ -24,7 +24,8 @@ use Rattle.search.specs.Search.{firstMatch}
 use Rattle.locals.specs.Name.{signatureParameter, numberedName, parameterName, unnamed, nameBy, localName}
 use Rattle.search.specs.declared.NamePlace.{NamePlace}
 use Rattle.search.specs.declared.NamePlace.the-variants.{Name, Unnamed}
-use Rattle.text.specs.Decimal.{digits, decimal}
+use Rattle.text.specs.Decimal.{decimal}
+use Rattle.text.proofs.Decimal.{decimal-short}
 
 -- a list is at most so long
 abbrev pub Within : ℕ → List ℕ → Type 0
@@ -82,23 +83,12 @@ found-within bytes index kind (suc count) last at =
         (rest (place .index) (place .next))
     of (Wrong place) rest = none-within (length bytes)
 
--- ---- numbers
-
-digits-within : (k n : ℕ) → Within k (digits k n)
-unfolding digits
-digits-within zero n = none-within 0
-digits-within (suc k) n =
-    let last = (48 + n % 10) ∷ [] in
-    chosen (Within (suc k)) (ltb n 10) ((48 + n) ∷ []) (digits k (n / 10) ++ last) (omega arith)
-    (omega (arith, length-append (digits k (n / 10)) last, digits-within k (n / 10)))
-
 -- ---- the name of a local
 
 numbered-within : (word : List ℕ) (n : ℕ) → Within 11 word → Within 40 (numberedName word n)
-unfolding numberedName decimal
+unfolding numberedName
 numbered-within word n short =
-    let number = digits 20 n in
-    omega (arith, short, length-append (word ++ number) (ascii ">"), length-append word number, digits-within 20 n)
+    omega (arith, short, length-append (word ++ decimal n) (ascii ">"), length-append word (decimal n), decimal-short n)
 
 parameter-within : (found : Found) (slot : ℕ) → Within 40 (parameterName found slot)
 parameter-within (At k) slot = numbered-within (ascii "<parameter") k (lit≤ tt)

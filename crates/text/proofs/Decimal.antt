@@ -1,48 +1,71 @@
--- Digits composed from the last to the first.
+-- A number's digits: those before the last, then the last.
 -- Assumes nothing.
-use Prim.Native.Nat.{ℕ, zero, suc, _+_, _-_, _/_, _%_, _^_, _≤_, _<_}
-use native.Mathlib.Nat.{not-suc-le-zero, le-of-suc-le-suc, pow-suc, div-lt-iff-lt-mul}
-use native.Mathlib.Numerals.{add-one, sub-one}
+use Prim.Native.Nat.{ℕ, zero, suc, _+_, _/_, _%_, _^_, _≤_, _<_}
+use native.Mathlib.Nat.{pow-suc, div-lt-iff-lt-mul}
 use native.Mathlib.Omega.{arith}
-use mathlib.Core.Path.{_≡_, refl, _∙_, sym, ap}
-use mathlib.Core.List.{List, [], _∷_, _++_, append-assoc}
-use lib.Dec.{lit<}
-use lib.ListN.{length, drop, set}
+use mathlib.Core.Path.{_≡_, sym, ap}
+use mathlib.Core.List.{List, [], _∷_, _++_}
+use lib.Dec.{lit<, ltb}
+use lib.ListN.{length, length-append}
 use borrow.Author.Tests.{lt-ltb, le-ltb}
-use Rattle.text.specs.Decimal.{digits}
+use Rattle.basics.specs.Choice.{pick}
+use Rattle.basics.proofs.Choice.{chosen}
+use Rattle.text.specs.Decimal.{digits, decimal}
+use Rattle.text.specs.Writing.{over, splice}
+use Rattle.text.proofs.Writing.{before-last}
 
--- from a stored byte on: that byte, and what stood behind it
-from-stored : (bytes : List ℕ) (i x : ℕ) → i < length bytes → drop i (set bytes i x) ≡ x ∷ drop (suc i) bytes
-from-stored [] i x inside = absurd (not-suc-le-zero inside)
-from-stored (b ∷ bytes) zero x inside = refl
-from-stored (b ∷ bytes) (suc i) x inside = from-stored bytes i x (le-of-suc-le-suc inside)
-
--- a number of two digits or more needs two places
-pub two-places : (n k : ℕ) → 10 ≤ n → n < 10 ^ k → 1 < k
-two-places n zero big below = absurd (omega arith)
-two-places n (suc zero) big below = absurd (omega arith)
-two-places n (suc (suc k)) big below = omega arith
-
--- without its last digit it has one place less
-pub one-place-less : (n k : ℕ) → 0 < k → n < 10 ^ k → n / 10 < 10 ^ (k - 1)
-one-place-less n zero some below = absurd (not-suc-le-zero some)
-one-place-less n (suc k) some below = rw sub-one (div-lt-iff-lt-mul (lit< tt) .1 (rw (pow-suc 10 k) at below))
-
--- one digit more is composed
-pub composed-more :
-    (bytes : List ℕ) (at n : ℕ) → 10 ≤ n → 0 < at → at ≤ length bytes →
-    digits (at - 1) (n / 10) ++ drop (at - 1) (set bytes (at - 1) (48 + n % 10)) ≡ digits at n ++ drop at bytes
+-- k digits at most
+digits-short : (k n : ℕ) → length (digits k n) ≤ k
 unfolding digits
-composed-more bytes zero n big some inside = absurd (not-suc-le-zero some)
-composed-more bytes (suc at) n big some inside =
-    rw (sub-one, le-ltb n 10 big, from-stored bytes at (48 + n % 10) inside)
-    (sym (append-assoc (digits at (n / 10)) ((48 + n % 10) ∷ []) (drop (suc at) bytes)))
+digits-short zero n = omega arith
+digits-short (suc k) n =
+    let last = (48 + n % 10) ∷ [] in
+    chosen (λ (text : List ℕ). length text ≤ suc k) (ltb n 10) ((48 + n) ∷ []) (digits k (n / 10) ++ last) (omega arith)
+    (omega (arith, length-append (digits k (n / 10)) last, digits-short k (n / 10)))
 
--- the first digit is composed
-pub composed-first :
-    (bytes : List ℕ) (at n : ℕ) → n < 10 → 0 < at → at ≤ length bytes →
-    drop (at - 1) (set bytes (at - 1) (48 + n)) ≡ digits at n ++ drop at bytes
+-- no number has more than twenty digits
+pub decimal-short : (n : ℕ) → length (decimal n) ≤ 20
+unfolding decimal
+decimal-short n = digits-short 20 n
+
+-- a number below ten is its own digit
+pub one-digit : (n : ℕ) → n < 10 → decimal n ≡ (48 + n) ∷ []
+unfolding decimal digits
+one-digit n small = rw (lt-ltb n 10 small)
+
+-- without its last digit a number has one place less
+one-place-less : (n k : ℕ) → n < 10 ^ suc k → n / 10 < 10 ^ k
+one-place-less n k below = div-lt-iff-lt-mul (lit< tt) .1 (rw (pow-suc 10 k) at below)
+
+-- a place more than a number fills changes nothing
+enough : (k n : ℕ) → n < 10 ^ suc k → digits (suc (suc k)) n ≡ digits (suc k) n
 unfolding digits
-composed-first bytes zero n small some inside = absurd (not-suc-le-zero some)
-composed-first bytes (suc at) n small some inside =
-    rw (sub-one, lt-ltb n 10 small, from-stored bytes at (48 + n) inside)
+enough zero n below = rw (lt-ltb n 10 (omega arith))
+enough (suc k) n below =
+    ap (λ (before : List ℕ). pick (ltb n 10) ((48 + n) ∷ []) (before ++ ((48 + n % 10) ∷ [])))
+    (enough k (n / 10) (one-place-less n (suc k) below))
+
+-- of a number from ten on, the last digit stands behind those of its tenth
+split :
+    (k n : ℕ) → 10 ≤ n → n < 10 ^ suc (suc k) →
+    digits (suc (suc k)) n ≡ digits (suc (suc k)) (n / 10) ++ ((48 + n % 10) ∷ [])
+unfolding digits
+split k n big below =
+    rw (le-ltb n 10 big)
+    (ap (λ (before : List ℕ). before ++ ((48 + n % 10) ∷ [])) (sym (enough k (n / 10) (one-place-less n (suc k) below))))
+
+pub last-digit : (n : ℕ) → 10 ≤ n → n < 2 ^ 64 → decimal n ≡ decimal (n / 10) ++ ((48 + n % 10) ∷ [])
+unfolding decimal
+last-digit n big below = split 18 n big (omega arith)
+
+-- so it has one digit more than its tenth
+pub one-more : (n : ℕ) → 10 ≤ n → n < 2 ^ 64 → length (decimal n) ≡ length (decimal (n / 10)) + 1
+one-more n big below = rw (last-digit n big below, length-append)
+
+-- the last digit is written first, then those before it
+pub last-written :
+    (n at : ℕ) (out : List ℕ) → 10 ≤ n → n < 2 ^ 64 → at + 1 ≡ length (decimal n) →
+    over (decimal (n / 10)) (splice at ((48 + n % 10) ∷ []) out) ≡ over (decimal n) out
+last-written n at out big below is =
+    let behind : at ≡ length (decimal (n / 10)) = omega (arith, one-more n big below) in
+    rw (behind, last-digit n big below) (before-last (decimal (n / 10)) ((48 + n % 10) ∷ []) out)

@@ -31,7 +31,7 @@ splice-length (suc at) text (y ∷ out) = ap suc (splice-length at text out)
 
 -- ---- one text after the other
 
-nothing-past : (at : ℕ) (text out : List ℕ) → length out ≤ at → splice at text out ≡ out
+pub nothing-past : (at : ℕ) (text out : List ℕ) → length out ≤ at → splice at text out ≡ out
 unfolding splice over
 nothing-past zero [] out past = refl
 nothing-past zero (x ∷ text) [] past = refl
@@ -45,6 +45,13 @@ unfolding over splice
 after-first [] w out = refl
 after-first (x ∷ v) w [] = refl
 after-first (x ∷ v) w (y ∷ out) = ap (λ (l : List ℕ). x ∷ l) (after-first v w out)
+
+-- the second behind the place of the first, then the first
+pub before-last : (v w out : List ℕ) → over v (splice (length v) w out) ≡ over (v ++ w) out
+unfolding over splice
+before-last [] w out = refl
+before-last (x ∷ v) w [] = refl
+before-last (x ∷ v) w (y ∷ out) = ap (λ (l : List ℕ). x ∷ l) (before-last v w out)
 
 splice-append : (at : ℕ) (v w out : List ℕ) → splice (at + length v) w (splice at v out) ≡ splice at (v ++ w) out
 unfolding splice
@@ -139,6 +146,13 @@ written-by-bytes text out after i n i-is n-is after-is =
       place = omega (arith, n-is);
       bytes = after-is ∙ ap (λ (k : ℕ). over (take k text) out) i-is ∙ all-that-fits text out;
     }
+
+-- one byte, stored at a place that the output reaches
+pub stored-one : (at x : ℕ) (out : List ℕ) → at < length out → set out at x ≡ splice at (x ∷ []) out
+unfolding splice over
+stored-one at x [] inside = absurd (not-suc-le-zero inside)
+stored-one zero x (y ∷ out) inside = refl
+stored-one (suc at) x (y ∷ out) inside = ap (λ (l : List ℕ). y ∷ l) (stored-one at x out (le-of-suc-le-suc inside))
 
 -- ---- a lent part
 

@@ -2,10 +2,11 @@
 // place after it is answered all the same. So nothing is asked of a caller, and a text is measured by writing it from the
 // output's end on.
 ghost use mathlib.Core.Path.{_≡_};
-ghost use Prim.Native.Nat.{_+_, min, _≤_};
-ghost use lib.ListN.{length, drop};
+ghost use mathlib.Core.List.{[], _∷_};
+ghost use Prim.Native.Nat.{_+_, min, _<_};
+ghost use lib.ListN.{length};
 ghost use Rattle.text.specs.Decimal.{decimal};
-ghost use Rattle.text.specs.Writing.{most, Written};
+ghost use Rattle.text.specs.Writing.{most, splice, Written};
 
 // The smaller of two numbers.
 pub fn shorter(a: usize, b: usize) -> usize
@@ -48,36 +49,47 @@ pub fn put_at(out: &mut [u8], at: usize, part: &[u8]) -> usize
     sum(at, n)
 }
 
-// The digits of a number, at the end of twenty bytes.
-struct Composed {
-    bytes: [u8; 20],
-    at: usize,
-}
-
-fn compose(n: usize) -> Composed
-    ensures { λ r. ⌜ (drop (r .at) (r .bytes) ≡ decimal n) × (r .at ≤ 20) × (length (r .bytes) ≡ 20) ⌝ }
+// How many digits a number has.
+fn digit_count(n: usize) -> usize
+    ensures { λ r. ⌜ r ≡ length (decimal n) ⌝ }
 {
-    let mut bytes = [0u8; 20];
-    let mut at: usize = 20;
+    let mut count = 1;
     let mut left = n;
     while 10 <= left {
-        at -= 1;
-        bytes[at] = (48 + left % 10) as u8;
+        count += 1;
         left /= 10;
     }
-    at -= 1;
-    bytes[at] = (48 + left) as u8;
-    Composed { bytes, at }
+    count
 }
 
-// Writes a number in decimal over the start of the output. The digits are composed aside and copied.
+// Writes a digit at a place, where the output reaches it.
+fn put_digit_at(out: &mut [u8], at: usize, digit: usize)
+    requires { ⌜ digit < 10 ⌝ }
+    ensures { λ r. ⌜ now (out .exit) ≡ splice at ((48 + digit) ∷ []) (now (out .entry)) ⌝ }
+{
+    if at < out.len() {
+        out[at] = (48 + digit) as u8;
+    }
+}
+
+// Writes a number in decimal over the start of the output, each digit in its place, from the last to the first. Answers their count,
+// which is all that is asked of it where there is no output.
 pub fn put_decimal(out: &mut [u8], n: usize) -> usize
     ensures { λ r. ⌜ Written 0 (decimal n) (now (out .entry)) r (now (out .exit)) ⌝ }
 {
-    let composed = compose(n);
-    let bytes = composed.bytes;
-    let at = composed.at;
-    put(out, &bytes[at..])
+    let count = digit_count(n);
+    if out.len() == 0 {
+        return count;
+    }
+    let mut at = count;
+    let mut left = n;
+    while 10 <= left {
+        at -= 1;
+        put_digit_at(out, at, left % 10);
+        left /= 10;
+    }
+    put_digit_at(out, 0, left);
+    count
 }
 
 // The same from a place on. Answers the place after it.
