@@ -31,17 +31,17 @@ const BATCH: f64 = 20_000.0;
 /// A call that lasts this long is measured once: a second.
 const LONG: f64 = 1e9;
 
-/// Nanoseconds of one call on each side: the least of all batches.
+/// Nanoseconds of one call on each side: the least of all batches. The other side is the Rust, or an earlier build of the library.
 #[derive(Clone, Copy)]
 pub struct Times {
     pub library: f64,
-    pub rust: f64,
+    pub other: f64,
 }
 
 impl Times {
-    /// How many times as fast as the Rust the library is.
+    /// How many times as fast as the other side the library is.
     pub fn ratio(self) -> f64 {
-        self.rust / self.library
+        self.other / self.library
     }
 }
 
@@ -67,16 +67,16 @@ fn calls_for<T>(call: &mut impl FnMut() -> T) -> (usize, f64) {
 }
 
 /// Both sides, in turns. Where a call is long, the first batch is all.
-pub fn alternate<A, B>(rounds: usize, mut library: impl FnMut() -> A, mut rust: impl FnMut() -> B) -> Times {
+pub fn alternate<A, B>(rounds: usize, mut library: impl FnMut() -> A, mut other: impl FnMut() -> B) -> Times {
     let (library_calls, library_first) = calls_for(&mut library);
-    let (rust_calls, rust_first) = calls_for(&mut rust);
-    let mut least = Times { library: library_first, rust: rust_first };
-    if least.library + least.rust > LONG {
+    let (other_calls, other_first) = calls_for(&mut other);
+    let mut least = Times { library: library_first, other: other_first };
+    if least.library + least.other > LONG {
         return least;
     }
     for _ in 0..rounds {
         least.library = least.library.min(batch(library_calls, &mut library));
-        least.rust = least.rust.min(batch(rust_calls, &mut rust));
+        least.other = least.other.min(batch(other_calls, &mut other));
     }
     least
 }

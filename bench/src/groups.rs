@@ -109,7 +109,7 @@ pub fn measure_in_turn(group: &Group, rounds: usize, progress: &mut impl FnMut(&
     let mut lent = Lent::cells(group.cells);
     let pairs: Vec<&Pair> = group.pairs.iter().filter(|pair| pair.agrees(&mut lent)).collect();
     let timing = of_nothing();
-    let mut times = vec![Times { library: f64::INFINITY, rust: f64::INFINITY }; pairs.len()];
+    let mut times = vec![Times { library: f64::INFINITY, other: f64::INFINITY }; pairs.len()];
     for round in 0..rounds {
         progress(&format!("{}, in turn: round {} of {rounds}", group.name, round + 1));
         for (pair, times) in pairs.iter().zip(&mut times) {
@@ -120,7 +120,7 @@ pub fn measure_in_turn(group: &Group, rounds: usize, progress: &mut impl FnMut(&
         }
         for (pair, times) in pairs.iter().zip(&mut times) {
             pair.enter();
-            times.rust = times.rust.min((once(|| pair.rust()) - timing).max(1.0));
+            times.other = times.other.min((once(|| pair.rust()) - timing).max(1.0));
         }
     }
     Row {

@@ -25,7 +25,7 @@ impl Curve {
         Some((
             last.bytes as f64 / first.bytes as f64,
             last.times.library / first.times.library,
-            last.times.rust / first.times.rust,
+            last.times.other / first.times.other,
         ))
     }
 }

@@ -8,7 +8,7 @@ const NOP: u8 = 0;
 const ALOAD_0: u8 = 42;
 const POP: u8 = 87;
 const ARRAYLENGTH: u8 = 190;
-const RETURN: u8 = 177;
+pub const RETURN: u8 = 177;
 
 /// The fault that ends a made code: the length of an array in local 0.
 const TAIL: [u8; 4] = [ALOAD_0, ARRAYLENGTH, POP, RETURN];

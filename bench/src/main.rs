@@ -4,6 +4,10 @@
 //! from the same bytes, which a plain reader turns into its objects; or, in lines of their own, from prepared objects (the method
 //! with its code and records, the members in hash maps), which it is not charged for. It allocates and frees its sets, lists and
 //! strings. Both end with the message, and a case is timed only where the messages agree.
+//!
+//! `against` times an earlier build of the library and this one over the same cases. Only a driver that has both knows it.
+#[cfg(before)]
+mod before;
 #[allow(dead_code)]
 #[path = "../../compare/src/classfile.rs"]
 mod classfile;
@@ -11,6 +15,7 @@ mod clock;
 mod groups;
 mod growth;
 mod made;
+mod names;
 mod pair;
 mod parts;
 mod plot;
@@ -60,6 +65,7 @@ fn progress(words: &str) {
 struct Results {
     rows: Vec<groups::Row>,
     parts: Vec<(String, parts::Parts)>,
+    names: Vec<(String, clock::Times)>,
     curves: Vec<growth::Curve>,
     hostile: Vec<growth::Hostile>,
 }
@@ -81,6 +87,7 @@ fn measure(plan: &Plan) -> Results {
     Results {
         rows: groups.iter().flat_map(|group| rows_of(group, plan)).collect(),
         parts: groups.iter().map(|group| (group.name.clone(), parts::of_group(group, 3, &mut progress))).collect(),
+        names: names::measure(plan.rounds, &mut progress),
         curves: growth::curves(plan.rounds, &mut progress),
         hostile: growth::hostile(plan.hostile, plan.rounds, &mut progress),
     }
@@ -113,6 +120,9 @@ fn page(plan: &Plan, results: &Results) -> String {
         &table::parts(&results.parts),
         "\nThe walk is a walk's time less that of reading; the rest is decoding the fault, naming the local, measuring the message and\n",
         "writing it: the report less the others, where that is below 0 it is shown as 0. Medians, each of its own.\n",
+        "\n### Names made of a number\n\n",
+        &table::names(&results.names),
+        "\nThe name alone, of a local without a record: the library from the bytes of a case, the Rust from prepared objects.\n",
         "\n### Growth with the code\n\n",
         &table::growth(&results.curves),
         "\n",
@@ -121,6 +131,15 @@ fn page(plan: &Plan, results: &Results) -> String {
         &table::hostile(&results.hostile),
     ]
     .concat()
+}
+
+/// Measures an earlier build and this one.
+#[cfg(before)]
+fn run_against(plan: &Plan) {
+    let rows = before::measure(plan, &mut progress);
+    progress("done");
+    eprintln!();
+    println!("{}", table::moved(&rows));
 }
 
 /// Measures all and writes table.md and growth.svg to a folder.
@@ -140,6 +159,8 @@ fn plan_of(arguments: &[String]) -> Option<(Plan, PathBuf)> {
     let mut plan = match mode.as_str() {
         "quick" => Plan::quick(),
         "full" => Plan::full(),
+        #[cfg(before)]
+        "against" => Plan { rounds: 9, ..Plan::quick() },
         _ => return None,
     };
     let (to, folders) = rest.split_first()?;
@@ -159,5 +180,10 @@ fn main() -> std::io::Result<()> {
         eprintln!("bench: quick|full FOLDER [jdk=FOLDER] [examples=FOLDER]");
         std::process::exit(2);
     };
+    #[cfg(before)]
+    if arguments[0] == "against" {
+        run_against(&plan);
+        return Ok(());
+    }
     run(&plan, &to)
 }

@@ -1,6 +1,6 @@
 //! One case, ready for both sides: its bytes for the library, prepared objects for the Rust.
 use crate::reading::objects;
-use korsepal::{report, Answer, Case, Kind, Member};
+use korsepal::{local_name, report, Answer, Case, Kind, Member, Name};
 use oracle_wrapped::{accessors, enter, CodeContext, Info, JavaMethod, LocalVariableInfo, Pool};
 use std::rc::Rc;
 
@@ -59,6 +59,16 @@ impl Pair {
         let (method, fault, pool) = objects(&self.case)?;
         enter(Rc::new(pool));
         accessors::build_message(&method, fault)
+    }
+
+    /// The library's name of a local that was loaded at index 0, from the bytes.
+    pub fn library_name<'a>(&self, local: u16, lent: &'a mut Lent) -> Name<'a> {
+        local_name(&self.case, u64::from(local), 0, &mut lent.output)
+    }
+
+    /// The Rust's, from prepared objects.
+    pub fn rust_name(&self, local: u16) -> String {
+        accessors::describe_local(&self.method, local, 0)
     }
 
     /// Whether both sides give the same message.

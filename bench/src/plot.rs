@@ -22,7 +22,7 @@ impl Frame {
     fn around(curves: &[Curve]) -> Frame {
         let points = || curves.iter().flat_map(|curve| &curve.points);
         let bytes = points().map(|point| (point.bytes as f64).log2());
-        let ns = points().flat_map(|point| [point.times.library.log10(), point.times.rust.log10()]);
+        let ns = points().flat_map(|point| [point.times.library.log10(), point.times.other.log10()]);
         let (first, last) = ends(bytes);
         let (low, high) = ends(ns);
         Frame {
@@ -134,7 +134,7 @@ pub fn svg(curves: &[Curve]) -> String {
     for (place, curve) in curves.iter().enumerate() {
         let colour = COLOURS[place % COLOURS.len()];
         drawn += &side(&frame, &curve.points, colour, "", |point| point.times.library);
-        drawn += &side(&frame, &curve.points, colour, DASH, |point| point.times.rust);
+        drawn += &side(&frame, &curve.points, colour, DASH, |point| point.times.other);
         drawn += &entry(place, colour, "", curve.name);
     }
     drawn += &entry(curves.len() + 1, "#333333", "", "the library");

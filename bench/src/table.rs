@@ -1,4 +1,5 @@
 //! The tables, as markdown that reads as plain text too.
+use crate::clock::Times;
 use crate::growth::{Curve, Hostile};
 use crate::groups::{median, Row};
 use crate::parts::Parts;
@@ -72,9 +73,35 @@ pub fn groups(rows: &[Row]) -> String {
             grouped(row.cells),
             grouped(row.case_bytes as usize),
             duration(median(row.times.iter().map(|times| times.library))),
-            duration(median(row.times.iter().map(|times| times.rust))),
+            duration(median(row.times.iter().map(|times| times.other))),
             ratio(median(row.times.iter().map(|times| times.ratio()))),
             ratio(row.times.iter().map(|times| times.ratio()).fold(f64::INFINITY, f64::min)),
+        ]
+    };
+    laid_out(&head, &rows.iter().map(cells).collect::<Vec<_>>())
+}
+
+/// One line a name.
+pub fn names(rows: &[(String, Times)]) -> String {
+    let head = ["name", "library", "Rust", "ratio"];
+    let cells = |(name, times): &(String, Times)| {
+        vec![format!("`{name}`"), duration(times.library), duration(times.other), ratio(times.ratio())]
+    };
+    laid_out(&head, &rows.iter().map(cells).collect::<Vec<_>>())
+}
+
+/// One line a group: an earlier build of the library, and this one.
+#[cfg(before)]
+pub fn moved(rows: &[Row]) -> String {
+    let head = ["what", "cases", "differing", "before", "now", "before / now"];
+    let cells = |row: &Row| {
+        vec![
+            row.name.clone(),
+            grouped(row.times.len()),
+            grouped(row.differing),
+            duration(median(row.times.iter().map(|times| times.other))),
+            duration(median(row.times.iter().map(|times| times.library))),
+            ratio(median(row.times.iter().map(|times| times.ratio()))),
         ]
     };
     laid_out(&head, &rows.iter().map(cells).collect::<Vec<_>>())
@@ -106,7 +133,7 @@ pub fn points(curves: &[Curve]) -> String {
                 curve.name.to_string(),
                 grouped(point.bytes),
                 duration(point.times.library),
-                duration(point.times.rust),
+                duration(point.times.other),
                 ratio(point.times.ratio()),
             ]
         };
@@ -125,9 +152,9 @@ pub fn hostile(tables: &[Hostile]) -> String {
             duration(table.many.library),
             duration(table.one.library),
             ratio(table.many.library / table.one.library),
-            duration(table.many.rust),
-            duration(table.one.rust),
-            ratio(table.many.rust / table.one.rust),
+            duration(table.many.other),
+            duration(table.one.other),
+            ratio(table.many.other / table.one.other),
             ratio(table.many.ratio()),
         ]
     };

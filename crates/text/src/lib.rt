@@ -72,8 +72,8 @@ fn put_digit_at(out: &mut [u8], at: usize, digit: usize)
     }
 }
 
-// Writes a number in decimal over the start of the output, each digit in its place, from the last to the first. Answers their count,
-// which is all that is asked of it where there is no output.
+// Writes a number in decimal over the start of the output, each digit in its place, from the last to the first. Answers how many they
+// are; without an output, as where a message is measured, that is all.
 pub fn put_decimal(out: &mut [u8], n: usize) -> usize
     ensures { λ r. ⌜ Written 0 (decimal n) (now (out .entry)) r (now (out .exit)) ⌝ }
 {

@@ -1,0 +1,100 @@
+//! Two builds of the library, an earlier one and this one, over the same cases: what moved. `bench/run against` makes the earlier
+//! archive and renames its functions.
+use crate::clock::{alternate, Times};
+use crate::groups::{self, median, Group, Row};
+use crate::names::{self, Numbered};
+use crate::pair::{Lent, Pair};
+use crate::Plan;
+use std::cell::RefCell;
+use std::hint::black_box;
+
+#[repr(C)]
+#[derive(PartialEq)]
+struct Report {
+    answer: u32,
+    kind: u32,
+    scan: u32,
+    block: u32,
+    value: u64,
+}
+
+#[repr(C)]
+#[derive(PartialEq)]
+struct Name {
+    answer: u32,
+    value: u64,
+}
+
+extern "C" {
+    fn korsepal_report(_: *const u8, _: usize, _: *mut u64, _: usize, _: *mut u8, _: usize) -> Report;
+    fn korsepal_local_name(_: *const u8, _: usize, _: u64, _: u64, _: *mut u8, _: usize) -> Name;
+    fn before_korsepal_report(_: *const u8, _: usize, _: *mut u64, _: usize, _: *mut u8, _: usize) -> Report;
+    fn before_korsepal_local_name(_: *const u8, _: usize, _: u64, _: u64, _: *mut u8, _: usize) -> Name;
+}
+
+/// A build of the library, by the functions that are timed.
+struct Build {
+    report: unsafe extern "C" fn(*const u8, usize, *mut u64, usize, *mut u8, usize) -> Report,
+    local_name: unsafe extern "C" fn(*const u8, usize, u64, u64, *mut u8, usize) -> Name,
+}
+
+const BEFORE: Build = Build { report: before_korsepal_report, local_name: before_korsepal_local_name };
+const NOW: Build = Build { report: korsepal_report, local_name: korsepal_local_name };
+
+impl Build {
+    fn report(&self, case: &[u8], lent: &mut Lent) -> Report {
+        let (stack, output) = (&mut lent.stack, &mut lent.output);
+        // SAFETY: each pointer goes with the count of its slice, and the slices don't overlap.
+        unsafe {
+            (self.report)(case.as_ptr(), case.len(), stack.as_mut_ptr(), stack.len(), output.as_mut_ptr(), output.len())
+        }
+    }
+
+    fn name(&self, numbered: &Numbered, lent: &mut Lent) -> Name {
+        let (case, output) = (&numbered.pair.case, &mut lent.output);
+        // SAFETY: as in `report`.
+        unsafe {
+            (self.local_name)(case.as_ptr(), case.len(), u64::from(numbered.local), 0, output.as_mut_ptr(), output.len())
+        }
+    }
+}
+
+/// One call by each build, in turns; `None` where the answers or the lent spaces differ.
+fn time<A: PartialEq>(rounds: usize, cells: usize, call: impl Fn(&Build, &mut Lent) -> A) -> Option<Times> {
+    let (mut lent, mut after) = (Lent::cells(cells), Lent::cells(cells));
+    let same = call(&BEFORE, &mut lent) == call(&NOW, &mut after);
+    if !same || lent.stack != after.stack || lent.output != after.output {
+        return None;
+    }
+    let lent = RefCell::new(lent);
+    let by = |build: &Build| {
+        black_box(call(build, &mut lent.borrow_mut()));
+    };
+    Some(alternate(rounds, || by(&NOW), || by(&BEFORE)))
+}
+
+fn row(name: &str, cells: usize, pairs: &[&Pair], times: Vec<Option<Times>>) -> Row {
+    Row {
+        name: name.to_string(),
+        cells,
+        case_bytes: median(pairs.iter().map(|pair| pair.case.len() as f64)),
+        differing: times.iter().filter(|times| times.is_none()).count(),
+        times: times.into_iter().flatten().collect(),
+    }
+}
+
+/// Reports of every group, then the names. Cases on which the builds differ are counted and not timed.
+pub fn measure(plan: &Plan, progress: &mut impl FnMut(&str)) -> Vec<Row> {
+    let mut rows = Vec::new();
+    for Group { name, cells, pairs, .. } in groups::all(plan) {
+        progress(&name);
+        let times = pairs.iter().map(|pair| time(plan.rounds, cells, |build, lent| build.report(&pair.case, lent)));
+        rows.push(row(&name, cells, &pairs.iter().collect::<Vec<_>>(), times.collect()));
+    }
+    for numbered in names::all() {
+        progress(&numbered.name);
+        let times = time(plan.rounds, 0, |build, lent| build.name(&numbered, lent));
+        rows.push(row(&format!("`{}`", numbered.name), 0, &[&numbered.pair], vec![times]));
+    }
+    rows
+}
