@@ -65,7 +65,7 @@ fn progress(words: &str) {
 struct Results {
     rows: Vec<groups::Row>,
     parts: Vec<(String, parts::Parts)>,
-    names: Vec<(String, clock::Times)>,
+    names: Vec<(String, Option<clock::Times>)>,
     curves: Vec<growth::Curve>,
     hostile: Vec<growth::Hostile>,
 }

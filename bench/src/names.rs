@@ -1,4 +1,4 @@
-//! Names that are made of a number, `<localN>` and `<parameterN>`, of one, three and five digits. A report reaches 255 locals; the
+//! Names that are made of a number, `<localN>` and `<parameterN>`, of one, three and five digits. A report names locals up to 255; the
 //! name alone takes any local.
 use crate::clock::{alternate, Times};
 use crate::made;
@@ -41,12 +41,12 @@ fn time(numbered: &Numbered, lent: &mut Lent, rounds: usize) -> Option<Times> {
 }
 
 /// The names with their times.
-pub fn measure(rounds: usize, progress: &mut impl FnMut(&str)) -> Vec<(String, Times)> {
+pub fn measure(rounds: usize, progress: &mut impl FnMut(&str)) -> Vec<(String, Option<Times>)> {
     let mut lent = Lent::cells(0);
-    let mut rows = Vec::new();
-    for numbered in all() {
+    let mut row = |numbered: Numbered| {
         progress(&numbered.name);
-        rows.extend(time(&numbered, &mut lent, rounds).map(|times| (numbered.name, times)));
-    }
-    rows
+        let times = time(&numbered, &mut lent, rounds);
+        (numbered.name, times)
+    };
+    all().into_iter().map(&mut row).collect()
 }

@@ -82,10 +82,14 @@ pub fn groups(rows: &[Row]) -> String {
 }
 
 /// One line a name.
-pub fn names(rows: &[(String, Times)]) -> String {
+pub fn names(rows: &[(String, Option<Times>)]) -> String {
     let head = ["name", "library", "Rust", "ratio"];
-    let cells = |(name, times): &(String, Times)| {
-        vec![format!("`{name}`"), duration(times.library), duration(times.other), ratio(times.ratio())]
+    let cells = |(name, times): &(String, Option<Times>)| {
+        let figures = match times {
+            Some(times) => [duration(times.library), duration(times.other), ratio(times.ratio())],
+            None => ["another name", "another name", "-"].map(str::to_string),
+        };
+        [format!("`{name}`")].into_iter().chain(figures).collect()
     };
     laid_out(&head, &rows.iter().map(cells).collect::<Vec<_>>())
 }

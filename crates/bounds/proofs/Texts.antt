@@ -1,10 +1,10 @@
--- Texts that are taken from a run of bytes are no longer than the run; numbers and the names of locals are short.
+-- Texts that are taken from a run of bytes are no longer than the run; the names of locals that their numbers make up are short.
 -- Assumes nothing.
-use Prim.Native.Nat.{ℕ, zero, suc, _+_, _-_, _/_, _%_, _≤_}
+use Prim.Native.Nat.{ℕ, zero, suc, _+_, _-_, _≤_}
 use native.Mathlib.Omega.{arith}
 use mathlib.Core.Bool.{Bool, true}
 use mathlib.Core.List.{List, [], _∷_, _++_}
-use lib.Dec.{T, eqb, leb, ltb, lit≤}
+use lib.Dec.{T, eqb, leb, lit≤}
 use lib.ListN.{length, take, drop, getD, length-append, length-take, length-drop}
 use Rattle.basics.specs.Ascii.{ascii}
 use Rattle.basics.specs.Choice.{pick, both}

@@ -12,7 +12,7 @@ use Rattle.basics.specs.Choice.{pick}
 use Rattle.basics.proofs.Choice.{chosen}
 use Rattle.text.specs.Decimal.{digits, decimal}
 use Rattle.text.specs.Writing.{over, splice}
-use Rattle.text.proofs.Writing.{before-last}
+use Rattle.text.proofs.Writing.{last-first}
 
 -- k digits at most
 digits-short : (k n : ℕ) → length (digits k n) ≤ k
@@ -68,4 +68,4 @@ pub last-written :
     over (decimal (n / 10)) (splice at ((48 + n % 10) ∷ []) out) ≡ over (decimal n) out
 last-written n at out big below is =
     let behind : at ≡ length (decimal (n / 10)) = omega (arith, one-more n big below) in
-    rw (behind, last-digit n big below) (before-last (decimal (n / 10)) ((48 + n % 10) ∷ []) out)
+    rw (behind, last-digit n big below) (last-first (decimal (n / 10)) ((48 + n % 10) ∷ []) out)

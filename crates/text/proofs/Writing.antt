@@ -46,12 +46,12 @@ after-first [] w out = refl
 after-first (x ∷ v) w [] = refl
 after-first (x ∷ v) w (y ∷ out) = ap (λ (l : List ℕ). x ∷ l) (after-first v w out)
 
--- the second behind the place of the first, then the first
-pub before-last : (v w out : List ℕ) → over v (splice (length v) w out) ≡ over (v ++ w) out
+-- the last text in its place first, then the one before it
+pub last-first : (v w out : List ℕ) → over v (splice (length v) w out) ≡ over (v ++ w) out
 unfolding over splice
-before-last [] w out = refl
-before-last (x ∷ v) w [] = refl
-before-last (x ∷ v) w (y ∷ out) = ap (λ (l : List ℕ). x ∷ l) (before-last v w out)
+last-first [] w out = refl
+last-first (x ∷ v) w [] = refl
+last-first (x ∷ v) w (y ∷ out) = ap (λ (l : List ℕ). x ∷ l) (last-first v w out)
 
 splice-append : (at : ℕ) (v w out : List ℕ) → splice (at + length v) w (splice at v out) ≡ splice at (v ++ w) out
 unfolding splice
