@@ -1,9 +1,9 @@
 //! Two builds of the library, an earlier one and this one, over the same cases: what moved. `bench/run against` makes the earlier
 //! archive and renames its functions.
 use crate::clock::{alternate, Times};
-use crate::groups::{self, median, Group, Row};
+use crate::groups::{self, Group};
 use crate::names::{self, Numbered};
-use crate::pair::{Lent, Pair};
+use crate::pair::Lent;
 use crate::Plan;
 use std::cell::RefCell;
 use std::hint::black_box;
@@ -59,11 +59,17 @@ impl Build {
     }
 }
 
-/// One call by each build, in turns; `None` where the answers or the lent spaces differ.
+/// One call by each build, in turns; `None` where the answers or the lent spaces, which hold other things before, differ.
 fn time<A: PartialEq>(rounds: usize, cells: usize, call: impl Fn(&Build, &mut Lent) -> A) -> Option<Times> {
-    let (mut lent, mut after) = (Lent::cells(cells), Lent::cells(cells));
-    let same = call(&BEFORE, &mut lent) == call(&NOW, &mut after);
-    if !same || lent.stack != after.stack || lent.output != after.output {
+    let after = |build: &Build| {
+        let mut lent = Lent::cells(cells);
+        lent.stack.fill(u64::MAX);
+        lent.output.fill(u8::MAX);
+        (call(build, &mut lent), lent)
+    };
+    let (was, lent) = after(&BEFORE);
+    let (is, now) = after(&NOW);
+    if was != is || lent.stack != now.stack || lent.output != now.output {
         return None;
     }
     let lent = RefCell::new(lent);
@@ -73,28 +79,32 @@ fn time<A: PartialEq>(rounds: usize, cells: usize, call: impl Fn(&Build, &mut Le
     Some(alternate(rounds, || by(&NOW), || by(&BEFORE)))
 }
 
-fn row(name: &str, cells: usize, pairs: &[&Pair], times: Vec<Option<Times>>) -> Row {
-    Row {
-        name: name.to_string(),
-        cells,
-        case_bytes: median(pairs.iter().map(|pair| pair.case.len() as f64)),
-        differing: times.iter().filter(|times| times.is_none()).count(),
-        times: times.into_iter().flatten().collect(),
+/// What both builds took for the cases of one line. Those on which they differ are counted and not timed.
+pub struct Moved {
+    pub name: String,
+    pub times: Vec<Times>,
+    pub differing: usize,
+}
+
+impl Moved {
+    fn of(name: String, cases: Vec<Option<Times>>) -> Moved {
+        let differing = cases.iter().filter(|times| times.is_none()).count();
+        Moved { name, times: cases.into_iter().flatten().collect(), differing }
     }
 }
 
-/// Reports of every group, then the names. Cases on which the builds differ are counted and not timed.
-pub fn measure(plan: &Plan, progress: &mut impl FnMut(&str)) -> Vec<Row> {
-    let mut rows = Vec::new();
+/// Reports of every group, then the names.
+pub fn measure(plan: &Plan, progress: &mut impl FnMut(&str)) -> Vec<Moved> {
+    let mut lines = Vec::new();
     for Group { name, cells, pairs, .. } in groups::all(plan) {
         progress(&name);
-        let times = pairs.iter().map(|pair| time(plan.rounds, cells, |build, lent| build.report(&pair.case, lent)));
-        rows.push(row(&name, cells, &pairs.iter().collect::<Vec<_>>(), times.collect()));
+        let cases = pairs.iter().map(|pair| time(plan.rounds, cells, |build, lent| build.report(&pair.case, lent)));
+        lines.push(Moved::of(name, cases.collect()));
     }
     for numbered in names::all() {
         progress(&numbered.name);
         let times = time(plan.rounds, 0, |build, lent| build.name(&numbered, lent));
-        rows.push(row(&format!("`{}`", numbered.name), 0, &[&numbered.pair], vec![times]));
+        lines.push(Moved::of(format!("`{}`", numbered.name), vec![times]));
     }
-    rows
+    lines
 }

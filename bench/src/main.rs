@@ -136,10 +136,10 @@ fn page(plan: &Plan, results: &Results) -> String {
 /// Measures an earlier build and this one.
 #[cfg(before)]
 fn run_against(plan: &Plan) {
-    let rows = before::measure(plan, &mut progress);
+    let lines = before::measure(plan, &mut progress);
     progress("done");
     eprintln!();
-    println!("{}", table::moved(&rows));
+    println!("{}", table::moved(&lines));
 }
 
 /// Measures all and writes table.md and growth.svg to a folder.

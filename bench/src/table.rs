@@ -1,4 +1,6 @@
 //! The tables, as markdown that reads as plain text too.
+#[cfg(before)]
+use crate::before::Moved;
 use crate::clock::Times;
 use crate::growth::{Curve, Hostile};
 use crate::groups::{median, Row};
@@ -94,21 +96,21 @@ pub fn names(rows: &[(String, Option<Times>)]) -> String {
     laid_out(&head, &rows.iter().map(cells).collect::<Vec<_>>())
 }
 
-/// One line a group: an earlier build of the library, and this one.
+/// An earlier build of the library, and this one.
 #[cfg(before)]
-pub fn moved(rows: &[Row]) -> String {
+pub fn moved(lines: &[Moved]) -> String {
     let head = ["what", "cases", "differing", "before", "now", "before / now"];
-    let cells = |row: &Row| {
+    let cells = |line: &Moved| {
         vec![
-            row.name.clone(),
-            grouped(row.times.len()),
-            grouped(row.differing),
-            duration(median(row.times.iter().map(|times| times.other))),
-            duration(median(row.times.iter().map(|times| times.library))),
-            ratio(median(row.times.iter().map(|times| times.ratio()))),
+            line.name.clone(),
+            grouped(line.times.len()),
+            grouped(line.differing),
+            duration(median(line.times.iter().map(|times| times.other))),
+            duration(median(line.times.iter().map(|times| times.library))),
+            ratio(median(line.times.iter().map(|times| times.ratio()))),
         ]
     };
-    laid_out(&head, &rows.iter().map(cells).collect::<Vec<_>>())
+    laid_out(&head, &lines.iter().map(cells).collect::<Vec<_>>())
 }
 
 /// One line a curve, first point to last.

@@ -9,7 +9,7 @@ use mathlib.Core.Bool.{Bool, true, false}
 use mathlib.Core.List.{List, [], _∷_, _++_, append-nil}
 use lib.Dec.{leb}
 use lib.ListN.{length, take, drop, getD, set, length-append, length-drop, drop-of-length-le}
-use lib.Seq.{take-all}
+use lib.Seq.{take-all, take-suc, length-take-le}
 use borrow.Author.Tests.{leb-true, leb-false}
 use borrow.Rule.Slice.PartMut.{putMid}
 use Rattle.basics.proofs.Outcome.{one-outcome}
@@ -110,22 +110,25 @@ written-none {at} out low = record { place = omega arith; bytes = sym (unchanged
 
 -- ---- byte by byte
 
-store-next :
-    (text out : List ℕ) (i : ℕ) → i < length text → i < length out →
-    set (over (take i text) out) i (getD text i 0) ≡ over (take (suc i) text) out
-unfolding over
-store-next [] out i inside room = absurd (not-suc-le-zero inside)
-store-next (x ∷ text) [] i inside room = absurd (not-suc-le-zero room)
-store-next (x ∷ text) (y ∷ out) zero inside room = refl
-store-next (x ∷ text) (y ∷ out) (suc i) inside room =
-    ap (λ (l : List ℕ). x ∷ l) (store-next text out i (le-of-suc-le-suc inside) (le-of-suc-le-suc room))
+-- one byte, stored at a place that the output reaches
+pub stored-one : (at x : ℕ) (out : List ℕ) → at < length out → set out at x ≡ splice at (x ∷ []) out
+unfolding splice over
+stored-one at x [] inside = absurd (not-suc-le-zero inside)
+stored-one zero x (y ∷ out) inside = refl
+stored-one (suc at) x (y ∷ out) inside = ap (λ (l : List ℕ). y ∷ l) (stored-one at x out (le-of-suc-le-suc inside))
 
 -- the first i bytes of a text are written, and then one more
 pub one-byte-more :
     (text out : List ℕ) (i : ℕ) → i < length text → i < length out →
     set (over (take i text) out) i (getD text i 0) ≡ over (take (i + 1) text) out
 one-byte-more text out i inside room =
-    store-next text out i inside room ∙ ap (λ (n : ℕ). over (take n text) out) (sym (add-one i))
+    let first = take i text in
+    let next = getD text i 0 ∷ [] in
+    let before : i ≡ length first = sym (length-take-le i text (omega arith)) in
+    stored-one i (getD text i 0) (over first out) (rw over-length room)
+    ∙ ap (λ (k : ℕ). splice k next (over first out)) before
+    ∙ after-first first next out
+    ∙ ap (λ (l : List ℕ). over l out) (sym (rw add-one (take-suc text i 0 inside)))
 
 -- as many bytes as fit are all that is written
 all-that-fits : (text out : List ℕ) → over (take (min (length text) (length out)) text) out ≡ over text out
@@ -146,13 +149,6 @@ written-by-bytes text out after i n i-is n-is after-is =
       place = omega (arith, n-is);
       bytes = after-is ∙ ap (λ (k : ℕ). over (take k text) out) i-is ∙ all-that-fits text out;
     }
-
--- one byte, stored at a place that the output reaches
-pub stored-one : (at x : ℕ) (out : List ℕ) → at < length out → set out at x ≡ splice at (x ∷ []) out
-unfolding splice over
-stored-one at x [] inside = absurd (not-suc-le-zero inside)
-stored-one zero x (y ∷ out) inside = refl
-stored-one (suc at) x (y ∷ out) inside = ap (λ (l : List ℕ). y ∷ l) (stored-one at x out (le-of-suc-le-suc inside))
 
 -- ---- a lent part
 
