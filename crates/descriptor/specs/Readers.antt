@@ -1,4 +1,4 @@
--- What the lenient readers answer of a whole descriptor (document 01, "Descriptors" and "Action and cause").
+-- What the lenient readers answer of a whole descriptor (document 01, "Descriptors" and "Action and cause"; document 02, request 2).
 -- Assumes nothing.
 use Prim.Native.Nat.{ℕ, _+_}
 use mathlib.Core.Bool.{Bool, true, false}
@@ -7,7 +7,6 @@ use lib.Dec.{eqb, leb}
 use lib.ListN.{length}
 use Rattle.basics.specs.Bytes.{byteAt}
 use Rattle.basics.specs.Choice.{pick}
-use Rattle.fieldtype.specs.Search.{firstFrom}
 use Rattle.fieldtype.specs.Types.{isWide, typeSlots, Types, over, unread, one, typesOf}
 use Rattle.fieldtype.specs.declared.Found.{Found}
 use Rattle.fieldtype.specs.declared.Found.the-variants.{At, Absent}
@@ -47,9 +46,14 @@ parameterAt text instance slot = startingAt (typesOf text) (pick instance 1 0) s
 
 -- ---- the return
 
--- the parenthesis that the return type follows: "the first `)` anywhere in the text"
+-- where the parameters end, if all of them were read
+abbrev pub endOf : Params → Found
+endOf (Read slots end) = At end
+endOf UnreadableParams = Absent
+
+-- "Read the parameters and take what follows the parenthesis that ends them." A list without one ends with the text.
 unfoldable pub closing : List ℕ → Found
-closing text = firstFrom 41 text 0
+closing text = endOf (parameters text)
 
 -- "V 0, J or D 2, any other byte 1; no byte, or no `)`, fails"
 unfoldable pub slotsBehind : List ℕ → Found → Slots

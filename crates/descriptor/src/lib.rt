@@ -1,7 +1,6 @@
-// Descriptors, read leniently (document 01, "Descriptors").
+// Descriptors, read leniently (document 01, "Descriptors"; document 02, request 2).
 use fieldtype::Found;
 use fieldtype::Taken;
-use fieldtype::find_byte;
 use fieldtype::is_wide;
 use fieldtype::parse_field_type;
 use fieldtype::type_slots;
@@ -9,7 +8,8 @@ ghost use mathlib.Core.Path.{_≡_};
 ghost use Prim.Native.Nat.{_+_, _≤_};
 ghost use lib.ListN.{length, drop};
 ghost use Rattle.basics.specs.Choice.{pick};
-ghost use Rattle.descriptor.specs.Readers.{parameters, parameterAt, returnSlots, fieldSlots};
+ghost use Rattle.fieldtype.specs.declared.Found.the-variants.{At};
+ghost use Rattle.descriptor.specs.Readers.{parameters, parameterAt, slotsBehind, returnSlots, fieldSlots};
 
 // The parameters of a call: their slots, and where their list ends.
 pub enum Params {
@@ -77,14 +77,14 @@ pub fn parameter_at(descriptor: &[u8], instance: bool, slot: usize) -> Found
     Found::Absent
 }
 
-// The slots of what a method returns.
-pub fn return_type_slots(descriptor: &[u8]) -> Slots
-    ensures { λ r. ⌜ r ≡ returnSlots (now (descriptor .entry)) ⌝ }
+// The slots of what a method returns whose parameters end at an index.
+pub fn slots_behind(descriptor: &[u8], end: usize) -> Slots
+    ensures { λ r. ⌜ r ≡ slotsBehind (now (descriptor .entry)) (At end) ⌝ }
 {
-    let Found::At(close) = find_byte(descriptor, b')', 0) else {
+    if descriptor.len() <= end {
         return Slots::Unreadable;
-    };
-    let at = close + 1;
+    }
+    let at = end + 1;
     if descriptor.len() <= at {
         return Slots::Unreadable;
     }
@@ -95,6 +95,16 @@ pub fn return_type_slots(descriptor: &[u8]) -> Slots
         return Slots::Slots(2);
     }
     Slots::Slots(1)
+}
+
+// The slots of what a method returns.
+pub fn return_type_slots(descriptor: &[u8]) -> Slots
+    ensures { λ r. ⌜ r ≡ returnSlots (now (descriptor .entry)) ⌝ }
+{
+    let Params::Read { slots: _, end } = parse_method_params(descriptor) else {
+        return Slots::Unreadable;
+    };
+    slots_behind(descriptor, end)
 }
 
 // The slots of a field.

@@ -15,7 +15,7 @@ use Rattle.basics.specs.Bytes.{byteAt}
 use Rattle.basics.specs.Choice.{pick, both}
 use Rattle.fieldtype.specs.Search.{firstIn, firstFrom}
 use Rattle.fieldtype.specs.Types.{brackets, classType, baseType, typeBehind, fieldTypeAt, isWide, typeSlots, Types, over, unread, one, typesAt, typesOf}
-use Rattle.descriptor.specs.Readers.{slotsOf, judged, parameters, closing, slotsBehind, returnSlots, fieldSlots}
+use Rattle.descriptor.specs.Readers.{slotsOf, judged, parameters, slotsBehind, returnSlots, fieldSlots}
 use Rattle.fieldtype.specs.declared.FieldType.{FieldType}
 use Rattle.fieldtype.specs.declared.Found.the-variants.{At, Absent}
 use Rattle.descriptor.specs.declared.Params.the-variants.{Read}
@@ -28,7 +28,8 @@ use Rattle.jvms.specs.Descriptor.{ReturnType, void, typed, MethodType, WellForm
 use Rattle.jvms.specs.Descriptor.{FieldType as Tree, returnSlots as treeReturnSlots}
 use Rattle.jvms.proofs.Rendering.{not-closing, spelled}
 use Rattle.descriptor.proofs.Listing.{list-closed, list-one}
-use Rattle.descriptors.specs.Lenient.{Told, told, Listed, none, more, letterOf, nameOf, treeTold, treesTold, occurs, closingAt, LenientAgrees}
+use Rattle.descriptor.proofs.Return.{behind-end}
+use Rattle.descriptors.specs.Lenient.{Told, told, Listed, none, more, letterOf, nameOf, treeTold, treesTold, closingAt, LenientAgrees}
 
 -- ---- what stands behind a prefix
 
@@ -302,22 +303,6 @@ module _ {text : List ℕ} where
 
 -- ---- the return, and a field
 
-first-past : (p rest : List ℕ) (at : ℕ) → occurs 41 p ≡ 0 → firstIn 41 (p ++ (41 ∷ rest)) at ≡ At (at + length p)
-unfolding firstIn
-first-past [] rest at free = ap At (omega arith)
-first-past (x ∷ p) rest at free = by-test (eqb x 41) refl free (λ z. first-past p rest (at + 1) z)
-  where
-    by-test :
-        (t : Bool) → eqb x 41 ≡ t → pick t 1 0 + occurs 41 p ≡ 0 →
-        (occurs 41 p ≡ 0 → firstIn 41 (p ++ (41 ∷ rest)) (at + 1) ≡ At (at + 1 + length p)) →
-        pick t (At at) (firstIn 41 (p ++ (41 ∷ rest)) (at + 1)) ≡ At (at + suc (length p))
-    by-test true e z further = absurd (omega arith)
-    by-test false e z further = further (omega arith) ∙ ap At (omega arith)
-
-occurs-append : (y : ℕ) (p q : List ℕ) → occurs y (p ++ q) ≡ occurs y p + occurs y q
-occurs-append y [] q = omega arith
-occurs-append y (x ∷ p) q = omega (arith, occurs-append y p q)
-
 -- the byte behind the parenthesis tells the slots
 abbrev byteSlots : ℕ → ℕ
 byteSlots x = pick (eqb x 86) 0 (pick (isWide x) 2 1)
@@ -356,17 +341,17 @@ slots-agree m well =
     listed-read types (slotsOf (typesOf (renderMethod m)))
     ∙ ap (λ (n : ℕ). Read n (closingAt m)) (listed-slots types ∙ trees-slots (m .parameters))
 
-return-agrees :
-    (m : MethodType) → occurs 41 (renderMethod m) ≡ 1 → returnSlots (renderMethod m) ≡ SlotsOf (treeReturnSlots (m .result))
-unfolding returnSlots closing firstFrom renderMethod
-return-agrees m single =
+behind-parameters : (m : MethodType) → slotsBehind (renderMethod m) (At (closingAt m)) ≡ SlotsOf (treeReturnSlots (m .result))
+unfolding renderMethod
+behind-parameters m =
     let q : List ℕ = 40 ∷ renderAll (m .parameters) in
     let first = return-first (m .result) in
-    let free : occurs 41 q ≡ 0 = omega (arith, occurs-append 41 q (41 ∷ renderReturn (m .result)), single) in
-    rw (first .2)
-    (ap (slotsBehind (q ++ (41 ∷ (first .0 ∷ first .1)))) (first-past q (first .0 ∷ first .1) 0 free ∙ ap At (omega arith))
-    ∙ behind-closing q (first .1) (first .0)
-    ∙ ap SlotsOf (first .3))
+    let long : closingAt m ≡ length q = omega arith in
+    rw (first .2, long) (behind-closing q (first .1) (first .0) ∙ ap SlotsOf (first .3))
+
+return-agrees : (m : MethodType) → WellFormedMethod m → returnSlots (renderMethod m) ≡ SlotsOf (treeReturnSlots (m .result))
+return-agrees m well =
+    behind-end (renderMethod m) (slotsAll (m .parameters)) (closingAt m) (slots-agree m well) ∙ behind-parameters m
 
 field-agrees : (t : Tree) → fieldSlots (render t) ≡ slots t
 unfolding fieldSlots render
@@ -386,6 +371,6 @@ lenient-agrees =
     record {
       sameTypes = types-agree;
       sameSlots = slots-agree;
-      sameReturn = λ m well. return-agrees m;
+      sameReturn = return-agrees;
       sameField = λ t well. field-agrees t;
     }

@@ -1,12 +1,10 @@
--- The lenient readers and the grammar of JVMS 4.3 agree on every well-formed descriptor, as statements. proofs/ has a proof of
--- each. Only the return asks that the descriptor has one closing parenthesis: it is looked for behind the first.
+-- The lenient readers and the grammar of JVMS 4.3 agree on every well-formed descriptor, as statements. proofs/Agree.antt has a
+-- proof of each.
 -- Assumes nothing.
 use Prim.Native.Nat.{ℕ, _+_, _-_}
 use mathlib.Core.Path.{_≡_}
 use mathlib.Core.List.{List, [], _∷_}
-use lib.Dec.{eqb}
 use lib.ListN.{length, take, drop}
-use Rattle.basics.specs.Choice.{pick}
 use Rattle.descriptor.specs.Readers.{parameters, returnSlots, fieldSlots}
 use Rattle.fieldtype.specs.Types.{Types, over, unread, one, typesOf}
 use Rattle.fieldtype.specs.declared.FieldType.{FieldType}
@@ -51,11 +49,6 @@ abbrev pub treesTold : List Tree → List Told
 treesTold [] = []
 treesTold (t ∷ ts) = treeTold t ∷ treesTold ts
 
--- how often a byte occurs
-abbrev pub occurs : ℕ → List ℕ → ℕ
-occurs byte [] = 0
-occurs byte (x ∷ xs) = pick (eqb x byte) 1 0 + occurs byte xs
-
 -- ---- the statements
 
 -- where the parameters of a written method end
@@ -67,7 +60,5 @@ pub record LenientAgrees : Type 0 where
       (m : MethodType) → WellFormedMethod m →
       Listed (renderMethod m) (typesOf (renderMethod m)) (treesTold (m .parameters)) (closingAt m)
   pub sameSlots : (m : MethodType) → WellFormedMethod m → parameters (renderMethod m) ≡ Read (slotsAll (m .parameters)) (closingAt m)
-  pub sameReturn :
-      (m : MethodType) → WellFormedMethod m → occurs 41 (renderMethod m) ≡ 1 →
-      returnSlots (renderMethod m) ≡ SlotsOf (treeReturnSlots (m .result))
+  pub sameReturn : (m : MethodType) → WellFormedMethod m → returnSlots (renderMethod m) ≡ SlotsOf (treeReturnSlots (m .result))
   pub sameField : (t : Tree) → WellFormed t → fieldSlots (render t) ≡ slots t

@@ -1,7 +1,7 @@
 -- What an effect is, by the tests that the code makes of its operands and its member.
 -- Assumes nothing.
 use Prim.Native.Nat.{ℕ, _+_, _≤_, _<_}
-use mathlib.Core.Path.{_≡_, refl, ap}
+use mathlib.Core.Path.{_≡_, refl, _∙_, ap}
 use mathlib.Core.Bool.{Bool, true, false}
 use mathlib.Core.List.{List, []}
 use lib.Dec.{ltb}
@@ -9,9 +9,11 @@ use lib.ListN.{length}
 use borrow.Author.Tests.{lt-ltb, le-ltb}
 use Rattle.basics.specs.Bytes.{byteAt, u16At}
 use Rattle.basics.specs.Choice.{pick}
-use Rattle.descriptor.specs.Readers.{parameters, returnSlots, fieldSlots}
+use Rattle.fieldtype.specs.declared.Found.the-variants.{At}
+use Rattle.descriptor.specs.Readers.{parameters, slotsBehind, fieldSlots}
 use Rattle.descriptor.specs.declared.Params.the-variants.{Read, Unreadable as NoParams}
 use Rattle.descriptor.specs.declared.Slots.the-variants.{Slots as SlotsOf, Unreadable as NoSlots}
+use Rattle.descriptor.proofs.Return.{behind-end}
 use Rattle.items.specs.Text.{descriptorOf}
 use Rattle.index.specs.Index.{foundBy}
 use Rattle.effects.specs.Lookup.{Lookup, Known, missing, known, knownBy}
@@ -84,15 +86,17 @@ module _ (code : List ℕ) (pc : ℕ) (members : List ℕ) (count : ℕ) (table 
       call-unread p = some-known (calling takes) _ texts (ltb (pc + 2) (length code)) _ is some (rw p)
 
       pub call-endless :
-          (args end : ℕ) → parameters (descriptorOf texts) ≡ Read args end → returnSlots (descriptorOf texts) ≡ NoSlots →
-          Calls (fails notModelled)
+          (args end : ℕ) → parameters (descriptorOf texts) ≡ Read args end →
+          slotsBehind (descriptorOf texts) (At end) ≡ NoSlots → Calls (fails notModelled)
       unfolding lookupBy
       call-endless args end p r =
-          some-known (calling takes) _ texts (ltb (pc + 2) (length code)) _ is some (rw (p, r))
+          some-known (calling takes) _ texts (ltb (pc + 2) (length code)) _ is some
+          (rw (p, behind-end (descriptorOf texts) args end p ∙ r))
 
       pub called :
           (args end gives : ℕ) → parameters (descriptorOf texts) ≡ Read args end →
-          returnSlots (descriptorOf texts) ≡ SlotsOf gives → Calls (does (takes + args) (blanks gives))
+          slotsBehind (descriptorOf texts) (At end) ≡ SlotsOf gives → Calls (does (takes + args) (blanks gives))
       unfolding lookupBy
       called args end gives p r =
-          some-known (calling takes) _ texts (ltb (pc + 2) (length code)) _ is some (rw (p, r))
+          some-known (calling takes) _ texts (ltb (pc + 2) (length code)) _ is some
+          (rw (p, behind-end (descriptorOf texts) args end p ∙ r))

@@ -102,14 +102,10 @@ fn call_effect(
         return Effect::Fails;
     }
     let signature = items::descriptor_of(texts);
-    let Params::Read {
-        slots: args,
-        end: _,
-    } = descriptor::parse_method_params(signature)
-    else {
+    let Params::Read { slots: args, end } = descriptor::parse_method_params(signature) else {
         return Effect::Fails;
     };
-    let Slots::Slots(gives) = descriptor::return_type_slots(signature) else {
+    let Slots::Slots(gives) = descriptor::slots_behind(signature, end) else {
         return Effect::Fails;
     };
     Effect::Opaque {

@@ -63,4 +63,5 @@ unfolding rows
     parameterAt startingAt numberedName decimal digits isInstance over
 rows-hold =
     refl & refl & refl & refl & refl & refl & refl & refl & refl & refl & refl & refl
-    & refl & refl & refl & refl & refl & refl & refl & refl & refl & none
+    & refl & refl & refl & refl & refl & refl & refl & refl & refl & refl & refl & refl
+    & refl & refl & refl & refl & none

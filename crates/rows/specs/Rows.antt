@@ -1,4 +1,5 @@
--- The rows of document 01's "Bench rows" that are marked P, and the example of its program, as one table.
+-- The rows of document 01's "Bench rows" that are marked P, the example of its program, and rows of document 02's requests, as one
+-- table.
 -- Assumes nothing.
 use Prim.Native.Nat.{ℕ}
 use mathlib.Core.Path.{_≡_}
@@ -12,7 +13,7 @@ use Rattle.descriptor.specs.Readers.{parameters, returnSlots}
 use Rattle.descriptor.specs.declared.Params.{Params}
 use Rattle.descriptor.specs.declared.Params.the-variants.{Read}
 use Rattle.descriptor.specs.declared.Slots.{Slots}
-use Rattle.descriptor.specs.declared.Slots.the-variants.{Slots as SlotsOf}
+use Rattle.descriptor.specs.declared.Slots.the-variants.{Slots as SlotsOf, Unreadable as NoSlots}
 use Rattle.leader.specs.Scan.{blockLeader}
 use Rattle.leader.specs.declared.Scan.{Scan}
 use Rattle.leader.specs.declared.Scan.the-variants.{Leader}
@@ -26,6 +27,12 @@ use Rattle.report.specs.Report.{reportOf, reportedIn}
 -- the bytes of a static method's case with a fault and a code, both short; no signature, no members, no records
 abbrev pub static : ℕ → List ℕ → List ℕ
 static fault code = 8 ∷ fault ∷ length code ∷ (code ++ (0 ∷ 0 ∷ 0 ∷ []))
+
+-- aload_0, aload_1, the static method 1 with a descriptor, arraylength, which faults; the class and the method are named a and m
+abbrev pub measured : List ℕ → List ℕ
+measured descriptor =
+    8 ∷ 5 ∷ 6 ∷ 0x2a ∷ 0x2b ∷ 0xb8 ∷ 0x00 ∷ 0x01 ∷ 0xbe
+    ∷ 0 ∷ 1 ∷ 1 ∷ 1 ∷ 1 ∷ 97 ∷ 1 ∷ 109 ∷ length descriptor ∷ (descriptor ++ (0 ∷ []))
 
 -- "Static method, flags 8, fault 1, code 2a b6 00 01 57 b1, signature `m:(Ljava/lang/String;)V`, member 1 method
 -- `java/lang/String` `length` `()I`, no records: 65 bytes"
@@ -86,11 +93,21 @@ rows =
     reports (static 3 (0x00 ∷ 0x00 ∷ 0x2a ∷ 0xbe ∷ 0x57 ∷ 0xa7 ∷ 0xff ∷ 0xfe ∷ [])) 1 60 (0 ∷ 28 ∷ 1 ∷ 6 ∷ 0 ∷ []) ∷
     -- "code a7 ff ff b1, fault 3: leader 3."
     leads (0xa7 ∷ 0xff ∷ 0xff ∷ 0xb1 ∷ []) 3 (Leader 3 2) ∷
-    -- "`(IJ[D)V`: int, long, double[], 4 slots, return 0. `(La)J;)V`: return 2."
+    -- "`(IJ[D)V`: int, long, double[], 4 slots, return 0."
     takes (ascii "(IJ[D)V") (Read 4 5) ∷
     names (ascii "(IJ[D)V") (ascii "int, long, double[]") ∷
     returns (ascii "(IJ[D)V") (SlotsOf 0) ∷
-    returns (ascii "(La)J;)V") (SlotsOf 2) ∷
+    -- document 02, request 2: "`(La)J;)V` then returns 0 slots." `(I)La)V;` has a parenthesis in its return, too. A list that can't be
+    -- read, and one without an end, have no return.
+    returns (ascii "(La)J;)V") (SlotsOf 0) ∷
+    returns (ascii "(I)La)V;") (SlotsOf 1) ∷
+    returns (ascii "(La)J;") NoSlots ∷
+    returns (ascii "(V)I") NoSlots ∷
+    returns (ascii ")V") NoSlots ∷
+    -- two slots above local 0, and none
+    reports (measured (ascii "(La)V;)J")) 8 60 (0 ∷ 28 ∷ 1 ∷ 4 ∷ 3 ∷ []) ∷
+    reports (measured (ascii "(La)J;)V")) 8 60 (0 ∷ 55 ∷ 2 ∷ 4 ∷ 3 ∷ []) ∷
+    writes (measured (ascii "(La)J;)V")) 8 (ascii "Cannot read the array length because \"<local0>\" is null") ∷
     -- "strict `()` is 1, `())` is 12, 255 `[` then I passes, 256 is 2."
     methodReads (40 ∷ 41 ∷ []) 4 (1 ∷ []) ∷
     methodReads (40 ∷ 41 ∷ 41 ∷ []) 4 (12 ∷ []) ∷

@@ -10,7 +10,7 @@ use Rattle.basics.specs.Bytes.{byteAt, u16At}
 use Rattle.basics.specs.Choice.{between}
 use Rattle.basics.proofs.Bytes.{all-below}
 use Rattle.basics.proofs.Every.{every, every-at}
-use Rattle.jvms.specs.Descriptor.{long, base, render, renderReturn, renderAll, renderMethod, WellFormed, WellFormedMethod}
+use Rattle.jvms.specs.Descriptor.{render, renderReturn, renderAll, renderMethod, ClassName, WellFormed, WellFormedMethod}
 use Rattle.jvms.specs.Format.{formatOf}
 use Rattle.bytecode.specs.Length.{bytesOf, within, lengthOf}
 use Rattle.fixed.specs.Fixed.{fixedLength}
@@ -22,7 +22,6 @@ use Rattle.leader.specs.declared.Scan.the-variants.{Leader}
 use Rattle.descriptor.specs.Readers.{slotsOf, judged, parameters, closing, slotsBehind, returnSlots, fieldSlots}
 use Rattle.fieldtype.specs.Search.{firstIn, firstFrom}
 use Rattle.fieldtype.specs.Types.{brackets, typeBehind, fieldTypeAt, typeSlots, typesFrom, typesAt, typesOf}
-use Rattle.descriptors.specs.Lenient.{occurs}
 use Rattle.number.specs.Number.{numberFrom, numberAt}
 use Rattle.items.specs.Text.{textAt, textPart, afterText, descriptorOf}
 use Rattle.tables.specs.Layout.{runBy}
@@ -38,67 +37,69 @@ use Rattle.truth.specs.Condition.{Described}
 use Rattle.truth.specs.Example.{worked, pool, PremisesMet, NamedRightly}
 use Rattle.truth.proofs.Cause.{cause-true}
 
-leads : blockLeader lengthOf [] (worked .code) 11 ≡ Leader 0 9
+leads : blockLeader lengthOf [] (worked .code) 12 ≡ Leader 0 10
 unfolding blockLeader instructions scanFrom scanCount leadersOf leadersAt branchOf answered greatest upTo lengthOf within bytesOf formatOf
 leads = refl
+
+-- (La)V;)J
+abbrev methodText : List ℕ
+methodText = 40 ∷ 76 ∷ 97 ∷ 41 ∷ 86 ∷ 59 ∷ 41 ∷ 74 ∷ []
 
 -- the members are found
 field-known : lookupIn (worked .members) 2 0 1 ≡ known (74 ∷ [])
 unfolding lookupIn memberFound memberAt numberAt numberFrom runBy textAt textPart afterText descriptorOf
 field-known = refl
 
-method-known : lookupIn (worked .members) 2 1 2 ≡ known (40 ∷ 73 ∷ 41 ∷ 86 ∷ [])
+method-known : lookupIn (worked .members) 2 1 2 ≡ known methodText
 unfolding lookupIn memberFound memberAt numberAt numberFrom runBy textAt textPart afterText descriptorOf
 method-known = refl
 
-walks : blockWalk (worked .code) (worked .members) 2 0 11 4 ≡ fits (done (1 ∷ 0 ∷ []) 7)
+walks : blockWalk (worked .code) (worked .members) 2 0 12 4 ≡ fits (done (1 ∷ 0 ∷ 0 ∷ []) 8)
 unfolding blockWalk completed completedFrom walk walkFrom step rowOf fixedLength formatOf u16At lookupIn memberFound memberAt numberAt numberFrom runBy textAt textPart afterText descriptorOf slotsOf judged parameters closing slotsBehind returnSlots fieldSlots firstIn firstFrom brackets typeBehind fieldTypeAt typeSlots typesFrom typesAt typesOf
 walks = refl
 
 -- ---- descriptors
 
--- among the indexes up to the fault, an opcode of a range stands at one place only
-only-at :
-    (low high place : ℕ) → T (every (λ k. whereAsked (between low high (byteAt (worked .code) k)) (eqb k place)) 12) →
-    (pc : ℕ) → pc ≤ 11 → T (between low high (byteAt (worked .code) pc)) → pc ≡ place
-only-at low high place t pc below here =
-    let test : ℕ → Bool = λ k. whereAsked (between low high (byteAt (worked .code) k)) (eqb k place) in
-    eqb→eq pc place
-    (asked (between low high (byteAt (worked .code) pc)) (eqb pc place) here (every-at test 12 t pc (omega arith)))
+-- among the indexes up to the fault, the opcodes of a range cite one member only
+only-cited :
+    (low high index : ℕ) →
+    T (every (λ k. whereAsked (between low high (byteAt (worked .code) k)) (eqb (u16At (worked .code) (k + 1)) index)) 13) →
+    (pc : ℕ) → pc ≤ 12 → T (between low high (byteAt (worked .code) pc)) → u16At (worked .code) (pc + 1) ≡ index
+only-cited low high index t pc below here =
+    let cites : ℕ → Bool = λ k. eqb (u16At (worked .code) (k + 1)) index in
+    let test : ℕ → Bool = λ k. whereAsked (between low high (byteAt (worked .code) k)) (cites k) in
+    eqb→eq (u16At (worked .code) (pc + 1)) index
+    (asked (between low high (byteAt (worked .code) pc)) (cites pc) here (every-at test 13 t pc (omega arith)))
 
-field-well :
-    (d : List ℕ) → lookupIn (worked .members) 2 0 (u16At (worked .code) 3) ≡ known d →
-    (d ≡ render (base long)) × WellFormed (base long)
-unfolding render u16At
-field-well d e =
+abbrev FieldTold : ℕ → Type 0
+FieldTold index =
+    (d : List ℕ) → lookupIn (worked .members) 2 0 index ≡ known d → (d ≡ render (pool .field index)) × WellFormed (pool .field index)
+
+abbrev MethodTold : ℕ → Type 0
+MethodTold index =
+    (d : List ℕ) → lookupIn (worked .members) 2 1 index ≡ known d →
+    (d ≡ renderMethod (pool .method index)) × WellFormedMethod (pool .method index)
+
+field-told : FieldTold 1
+unfolding render
+field-told d e =
     let same : known d ≡ known (74 ∷ []) = sym e ∙ field-known in
     (cc, record { named = tt; shallow = lit≤ tt })
 
-method-well :
-    (d : List ℕ) → lookupIn (worked .members) 2 1 (u16At (worked .code) 12) ≡ known d →
-    (d ≡ renderMethod (pool .method 2)) × WellFormedMethod (pool .method 2) × (occurs 41 d ≡ 1)
-unfolding renderMethod renderAll renderReturn render u16At
-method-well d e =
-    let same : known d ≡ known (40 ∷ 73 ∷ 41 ∷ 86 ∷ []) = sym e ∙ method-known in
-    let text : d ≡ 40 ∷ 73 ∷ 41 ∷ 86 ∷ [] = cc in
-    (text, record { parameters = (record { named = tt; shallow = lit≤ tt }, tt); result = tt }, ap (occurs 41) text)
+method-told : MethodTold 2
+unfolding renderMethod renderAll renderReturn render
+method-told d e =
+    let same : known d ≡ known methodText = sym e ∙ method-known in
+    let named : ClassName (97 ∷ 41 ∷ 86 ∷ []) = (λ x. omega (arith, x), (λ x. omega (arith, x), (λ x. omega (arith, x), tt))) in
+    (cc, record { parameters = (record { named = named; shallow = lit≤ tt }, tt); result = record { named = tt; shallow = lit≤ tt } })
 
-described : (pc : ℕ) → pc ≤ 11 → Described (lookupIn (worked .members) 2) pool (worked .code) pc
+described : (pc : ℕ) → pc ≤ 12 → Described (lookupIn (worked .members) 2) pool (worked .code) pc
+unfolding u16At
 described pc below =
     record {
-      field = λ t. subst (λ (k : ℕ). FieldTold k) (sym (only-at 178 181 2 tt pc below t)) field-well;
-      method = λ t. subst (λ (k : ℕ). MethodTold k) (sym (only-at 182 185 11 tt pc below t)) method-well;
+      field = λ t. subst FieldTold (sym (only-cited 178 181 1 tt pc below t)) field-told;
+      method = λ t. subst MethodTold (sym (only-cited 182 185 2 tt pc below t)) method-told;
     }
-  where
-    FieldTold : ℕ → Type 0
-    FieldTold k =
-        (d : List ℕ) → lookupIn (worked .members) 2 0 (u16At (worked .code) (k + 1)) ≡ known d →
-        (d ≡ render (base long)) × WellFormed (base long)
-
-    MethodTold : ℕ → Type 0
-    MethodTold k =
-        (d : List ℕ) → lookupIn (worked .members) 2 1 (u16At (worked .code) (k + 1)) ≡ known d →
-        (d ≡ renderMethod (pool .method 2)) × WellFormedMethod (pool .method 2) × (occurs 41 d ≡ 1)
 
 -- ---- the premises, and the cause
 
@@ -106,7 +107,7 @@ pub premises-met : PremisesMet
 premises-met =
     record {
       bytes = all-below 256 (worked .code) tt tt;
-      scan = 9;
+      scan = 10;
       measured = leads;
       inside = lit< tt;
       room = 4;
@@ -115,9 +116,9 @@ premises-met =
       described = λ pc here below. described pc below;
     }
 
-deep : depthOf (lookupIn (worked .members) 2) (worked .code) 11 ≡ at 1
-unfolding depthOf ruleOf u16At lookupIn memberFound memberAt numberAt numberFrom runBy textAt textPart afterText descriptorOf slotsOf judged parameters firstIn firstFrom brackets typeBehind fieldTypeAt typeSlots typesFrom typesAt typesOf
+deep : depthOf (lookupIn (worked .members) 2) (worked .code) 12 ≡ at 2
+unfolding depthOf ruleOf u16At lookupIn memberFound memberAt numberAt numberFrom runBy textAt textPart afterText descriptorOf fieldSlots
 deep = refl
 
 pub named-rightly : NamedRightly
-named-rightly = cause-true worked pool premises-met 1 0 0 deep (lit< tt) (lit< tt) refl
+named-rightly = cause-true worked pool premises-met 2 0 0 deep (lit< tt) (lit< tt) refl

@@ -59,7 +59,7 @@ module _ (lookup : Lookup) (pool : Pool) (code : List ℕ) (pc : ℕ) (told : De
       T (between 182 185 (byteAt code pc)) → (d : List ℕ) → lookup 1 index ≡ known d → returnSlots d ≡ SlotsOf (cited .gives)
   return-slots t d e =
       let well = told .method t d e in
-      ap returnSlots (well .0) ∙ lenient-agrees .sameReturn (pool .method index) (well .1) (rw (well .0) at (well .2))
+      ap returnSlots (well .0) ∙ lenient-agrees .sameReturn (pool .method index) (well .1)
 
   -- ---- effects
 

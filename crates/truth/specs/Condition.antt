@@ -19,7 +19,6 @@ use Rattle.bytecode.specs.Rule.{LengthRule, document-rule}
 use Rattle.leader.specs.Scan.{blockLeader}
 use Rattle.leader.specs.declared.Scan.the-variants.{Leader}
 use Rattle.leaders.specs.Leader.{Reached}
-use Rattle.descriptors.specs.Lenient.{occurs}
 use Rattle.effects.specs.Depth.{depthOf, at}
 use Rattle.effects.specs.Lookup.{Lookup, lookupIn, known}
 use Rattle.walk.specs.Room.{blockWalk, answerOf, cellsOf}
@@ -38,8 +37,7 @@ pub record Described (lookup : Lookup) (pool : Pool) (code : List ℕ) (pc : ℕ
       (d ≡ render (pool .field (u16At code (pc + 1)))) × WellFormed (pool .field (u16At code (pc + 1)))
   pub method :
       T (between 182 185 (byteAt code pc)) → (d : List ℕ) → lookup 1 (u16At code (pc + 1)) ≡ known d →
-      (d ≡ renderMethod (pool .method (u16At code (pc + 1))))
-      × WellFormedMethod (pool .method (u16At code (pc + 1))) × (occurs 41 d ≡ 1)
+      (d ≡ renderMethod (pool .method (u16At code (pc + 1)))) × WellFormedMethod (pool .method (u16At code (pc + 1)))
 
 -- the parts of a case, and what `block_leader` and `simulate_block` answer of them
 pub record Findings : Type 0 where
@@ -67,7 +65,7 @@ module _ (rule : LengthRule) (handlers : List ℕ) where
     pub room : ℕ
     pub walked : answerOf (blockWalk (f .code) (f .members) (f .memberCount) (f .leader) (f .fault) room) ≡ Done (f .height) (f .count)
     pub left : f .stack ≡ cellsOf room (blockWalk (f .code) (f .members) (f .memberCount) (f .leader) (f .fault) room)
-    -- "the descriptors of walk and fault are well formed with one closing parenthesis per method descriptor"
+    -- "the descriptors of walk and fault are well formed"; "demand 3 loses its premise of one parenthesis" (document 02, request 2)
     pub described :
         (pc : ℕ) → InBlock (f .code) (f .leader) pc → pc ≤ f .fault →
         Described (lookupIn (f .members) (f .memberCount)) pool (f .code) pc

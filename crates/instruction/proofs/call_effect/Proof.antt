@@ -1,9 +1,12 @@
 -- `instruction::call_effect` meets its contract. The ways in which it fails, then the slots that the descriptor gives.
 -- Assumes nothing.
+use Prim.Native.Nat.{ℕ}
 use native.Mathlib.Omega.{arith}
 use mathlib.Core.Path.{_∙_, ap, sym}
+use mathlib.Core.List.{List}
 use borrow.Author.Needs.{needs}
-use Rattle.descriptor.specs.Readers.{parameters, returnSlots}
+use Rattle.fieldtype.specs.declared.Found.the-variants.{At}
+use Rattle.descriptor.specs.Readers.{parameters, slotsBehind}
 use Rattle.instruction.proofs.Effects as laws
 use Rattle.instruction.proofs.Slots.{few-slots}
 use Rattle.instruction.proofs.call_effect.Statement.{statement}
@@ -41,8 +44,8 @@ returns-2 c =
     (found .cited-texts .ensures) (part .before .if1 .left)
     (ap parameters (sym (part .descriptor-of .ensures)) ∙ sym (list .parse-method-params .ensures) ∙ c .enum-told .given .1)
 
-return-type-slots-requires : tie.Need-return-type-slots-requires
-return-type-slots-requires c κs = search needs
+slots-behind-requires : tie.Need-slots-behind-requires
+slots-behind-requires c κs = search needs
 
 enum-known-gives : tie.Need-enum-known-gives
 enum-known-gives c = search needs
@@ -53,20 +56,20 @@ enum-told-2 c = search needs
 returns-3 : tie.Need-returns-3
 returns-3 c =
     let result = c .before .before in
+    let read = result .before .before .args2 .given in
     let list = result .before .before .before .before in
     let part = list .before in
     let found = part .before .before in
     let a = found .before .before .before .before .args in
     laws.call-endless (a .code .now) (a .pc) (a .members .now) (a .count) (a .table .now) (a .takes) _
-    (found .cited-texts .ensures) (part .before .if1 .left) _ _
-    (ap parameters (sym (part .descriptor-of .ensures)) ∙ sym (list .parse-method-params .ensures)
-    ∙ result .before .before .args2 .given .1)
-    (ap returnSlots (sym (part .descriptor-of .ensures)) ∙ sym (result .return-type-slots .ensures)
-    ∙ c .enum-told2 .given .1)
+    (found .cited-texts .ensures) (part .before .if1 .left) _ (read .0 .1 .0)
+    (ap parameters (sym (part .descriptor-of .ensures)) ∙ sym (list .parse-method-params .ensures) ∙ read .1)
+    (ap (λ (d : List ℕ). slotsBehind d (At (read .0 .1 .0))) (sym (part .descriptor-of .ensures))
+    ∙ sym (result .slots-behind .ensures) ∙ c .enum-told2 .given .1)
 
 -- a descriptor has few slots, and a row takes one at most
-add-t11 : tie.Need-add-t11
-add-t11 c =
+add-t12 : tie.Need-add-t12
+add-t12 c =
     let result = c .before .before .before in
     let list = result .before .before .before .before in
     let part = list .before in
@@ -77,16 +80,16 @@ add-t11 c =
 returns-4 : tie.Need-returns-4
 returns-4 c =
     let result = c .before .before .before in
+    let read = result .before .before .args2 .given in
     let list = result .before .before .before .before in
     let part = list .before in
     let found = part .before .before in
     let a = found .before .before .before .before .args in
     laws.called (a .code .now) (a .pc) (a .members .now) (a .count) (a .table .now) (a .takes) _
-    (found .cited-texts .ensures) (part .before .if1 .left) _ _ _
-    (ap parameters (sym (part .descriptor-of .ensures)) ∙ sym (list .parse-method-params .ensures)
-    ∙ result .before .before .args2 .given .1)
-    (ap returnSlots (sym (part .descriptor-of .ensures)) ∙ sym (result .return-type-slots .ensures)
-    ∙ c .before .gives .given .1)
+    (found .cited-texts .ensures) (part .before .if1 .left) _ (read .0 .1 .0) _
+    (ap parameters (sym (part .descriptor-of .ensures)) ∙ sym (list .parse-method-params .ensures) ∙ read .1)
+    (ap (λ (d : List ℕ). slotsBehind d (At (read .0 .1 .0))) (sym (part .descriptor-of .ensures))
+    ∙ sym (result .slots-behind .ensures) ∙ c .before .gives .given .1)
 
 pub call-effect-spec : {M : Type 1} → statement M
 call-effect-spec =
@@ -99,9 +102,9 @@ call-effect-spec =
     enum-known-args
     enum-told
     returns-2
-    return-type-slots-requires
+    slots-behind-requires
     enum-known-gives
     enum-told-2
     returns-3
-    add-t11
+    add-t12
     returns-4)

@@ -1,0 +1,184 @@
+-- Where a list of parameters ends, and what that says of the return.
+-- Assumes nothing.
+use Prim.Native.Nat.{ℕ, zero, suc, _+_, _≤_, _<_}
+use native.Mathlib.Nat.{eq-or-lt-of-le}
+use native.Mathlib.Omega.{arith}
+use mathlib.Core.Logic.{⊎-elim}
+use mathlib.Core.Path.{_≡_, refl, _∙_, sym, ap, subst}
+use mathlib.Core.Bool.{Bool, true, false}
+use mathlib.Core.List.{List, [], _∷_}
+use lib.Dec.{eqb, lit≤}
+use lib.ListN.{length, take}
+use borrow.Author.Tests.{eqb-true, le-leb, lt-leb, eq-eqb}
+use Rattle.basics.specs.Bytes.{byteAt}
+use Rattle.basics.specs.Choice.{pick}
+use Rattle.descriptor.specs.Readers.{slotsOf, judged, parameters, endOf, closing, slotsBehind, returnSlots}
+use Rattle.descriptor.specs.declared.Params.{Params}
+use Rattle.descriptor.specs.declared.Params.the-variants.{Read, Unreadable as UnreadableParams}
+use Rattle.descriptor.specs.declared.Slots.{Slots}
+use Rattle.descriptor.specs.declared.Slots.the-variants.{Slots as SlotsOf, Unreadable}
+use Rattle.fieldtype.specs.Search.{firstIn, firstFrom}
+use Rattle.fieldtype.specs.Types.{fieldTypeAt, Inside, takenInside, typesStep, listOver, typesFrom, typesAt, typesOf}
+use Rattle.fieldtype.specs.declared.Found.{Found}
+use Rattle.fieldtype.specs.declared.Found.the-variants.{At, Absent}
+use Rattle.fieldtype.specs.declared.Taken.{Taken}
+use Rattle.fieldtype.specs.declared.Taken.the-variants.{Field, Unreadable as UnreadableType}
+use Rattle.fieldtype.proofs.Bounds.{taken-inside}
+use Rattle.jvms.specs.Descriptor.{int, base, class, void, typed, MethodType, render, renderAll, renderReturn, renderMethod, ClassName, WellFormedMethod}
+use Rattle.descriptors.specs.Place.{firstPlace, firstReturn, lastPlace, Returns, occurs, ReturnPlace}
+use Rattle.descriptors.proofs.Agree.{lenient-agrees}
+
+-- ---- where a list ends
+
+-- at a `)`, or with the text
+abbrev Ended : List ℕ → ℕ → Type 0
+Ended text end = (end ≤ length text) × (end < length text → byteAt text end ≡ 41)
+
+-- a text that starts with a byte other than 0 is not empty
+not-empty : (text : List ℕ) → byteAt text 0 ≡ 40 → 1 ≤ length text
+not-empty [] e = absurd (omega (arith, e))
+not-empty (x ∷ xs) e = omega arith
+
+module _ (text : List ℕ) where
+  over-ended : (at : ℕ) → at ≤ length text → listOver text at ≡ true → Ended text at
+  over-ended at inside o = (inside, λ below. eqb-true (byteAt text at) 41 (rw (lt-leb (length text) at below) at o))
+
+  from-ended :
+      (k at n slots end : ℕ) → at ≤ length text → length text ≤ at + k → judged (typesFrom text k at) n ≡ Read slots end →
+      Ended text end
+  unfolding typesFrom judged
+  from-ended zero at n slots end inside enough e =
+      let same : at ≡ end = cc in (omega arith, λ below. absurd (omega arith))
+  from-ended (suc k) at n slots end inside enough e =
+      by-step (listOver text at) refl (fieldTypeAt text at) (taken-inside text at) e
+      (λ next onward within. from-ended k next n slots end within (omega arith))
+    where
+      by-step :
+          (b : Bool) → listOver text at ≡ b → (t : Taken) → takenInside t text at →
+          judged (typesStep b t at (λ next. typesFrom text k next)) n ≡ Read slots end →
+          ((next : ℕ) → at < next → next ≤ length text → judged (typesFrom text k next) n ≡ Read slots end → Ended text end) →
+          Ended text end
+      by-step true o t here q later = let same : at ≡ end = cc in subst (Ended text) same (over-ended at inside o)
+      by-step false o (Field t) here q later = later (t .next) (omega (arith, here .onward)) (here .within) q
+      by-step false o UnreadableType here q later = let z : _≡_ {A = ℕ} 0 1 = cc in absurd (omega arith)
+
+  list-ended : (slots end : ℕ) → parameters text ≡ Read slots end → Ended text end
+  unfolding parameters typesOf typesAt
+  list-ended slots end e = by-test (eqb (byteAt text 0) 40) refl e
+    where
+      by-test :
+          (b : Bool) → eqb (byteAt text 0) 40 ≡ b →
+          pick b (judged (typesFrom text (length text) 1) (slotsOf (typesFrom text (length text) 1))) UnreadableParams ≡ Read slots end →
+          Ended text end
+      by-test true o q = from-ended (length text) 1 _ slots end (not-empty text (eqb-true (byteAt text 0) 40 o)) (omega arith) q
+      by-test false o q = let z : _≡_ {A = ℕ} 0 1 = cc in absurd (omega arith)
+
+  ended : (end : ℕ) → closing text ≡ At end → Ended text end
+  unfolding closing
+  ended end e = by-list (parameters text) refl e
+    where
+      by-list : (p : Params) → parameters text ≡ p → endOf p ≡ At end → Ended text end
+      by-list (Read slots stop) list q = let same : stop ≡ end = cc in subst (Ended text) same (list-ended slots stop list)
+      by-list UnreadableParams list q = let z : _≡_ {A = ℕ} 0 1 = cc in absurd (omega arith)
+
+-- ---- the first parenthesis
+
+first-at :
+    (text : List ℕ) (end from : ℕ) → occurs 41 (take end text) ≡ 0 → end < length text → byteAt text end ≡ 41 →
+    firstIn 41 text from ≡ At (from + end)
+unfolding firstIn
+first-at [] end from none below here = absurd (omega arith)
+first-at (x ∷ xs) zero from none below here = rw (eq-eqb x 41 here) (ap At (omega arith))
+first-at (x ∷ xs) (suc end) from none below here =
+    by-test (eqb x 41) none (λ q. first-at xs end (from + 1) q (omega arith) here)
+  where
+    by-test :
+        (b : Bool) → pick b 1 0 + occurs 41 (take end xs) ≡ 0 →
+        (occurs 41 (take end xs) ≡ 0 → firstIn 41 xs (from + 1) ≡ At (from + 1 + end)) →
+        pick b (At from) (firstIn 41 xs (from + 1)) ≡ At (from + suc end)
+    by-test true z further = absurd (omega arith)
+    by-test false z further = further (omega arith) ∙ ap At (omega arith)
+
+first-none : (text : List ℕ) (end from : ℕ) → occurs 41 (take end text) ≡ 0 → length text ≤ end → firstIn 41 text from ≡ Absent
+unfolding firstIn
+first-none [] end from none past = refl
+first-none (x ∷ xs) zero from none past = absurd (omega arith)
+first-none (x ∷ xs) (suc end) from none past = by-test (eqb x 41) none (λ q. first-none xs end (from + 1) q (omega arith))
+  where
+    by-test :
+        (b : Bool) → pick b 1 0 + occurs 41 (take end xs) ≡ 0 →
+        (occurs 41 (take end xs) ≡ 0 → firstIn 41 xs (from + 1) ≡ Absent) →
+        pick b (At from) (firstIn 41 xs (from + 1)) ≡ Absent
+    by-test true z further = absurd (omega arith)
+    by-test false z further = further (omega arith)
+
+-- ---- the statements
+
+module _ (text : List ℕ) where
+  behind-all : (end : ℕ) → closing text ≡ At end → length text ≤ end → returnSlots text ≡ Unreadable
+  unfolding returnSlots slotsBehind
+  behind-all end e past = rw (e, le-leb (length text) (end + 1) (omega arith))
+
+  unread : closing text ≡ Absent → returnSlots text ≡ Unreadable
+  unfolding returnSlots slotsBehind
+  unread e = rw e
+
+  same-place : (end : ℕ) → closing text ≡ At end → firstPlace text ≡ At end → returnSlots text ≡ firstReturn text
+  unfolding returnSlots
+  same-place end e first = ap (slotsBehind text) (e ∙ sym first)
+
+  without-one : (end : ℕ) → closing text ≡ At end → occurs 41 (take end text) ≡ 0 → returnSlots text ≡ firstReturn text
+  unfolding firstPlace firstFrom slotsBehind
+  without-one end e none =
+      ⊎-elim
+      (λ (all : end ≡ length text).
+      behind-all end e (omega arith) ∙ sym (nothing (first-none text end 0 none (omega arith))))
+      (λ (below : end < length text).
+      same-place end e (first-at text end 0 none below (ended text end e .1 below) ∙ ap At (omega arith)))
+      (eq-or-lt-of-le (ended text end e .0))
+    where
+      nothing : firstIn 41 text 0 ≡ Absent → firstReturn text ≡ Unreadable
+      nothing q = rw q
+
+-- ---- the end of the list, the first parenthesis and the last
+
+the-end : Returns closing
+unfolding returnSlots
+the-end m well = lenient-agrees .sameReturn m well
+
+named : (x : ℕ) → (x ≡ 59 → ⊥) → ClassName (97 ∷ 41 ∷ x ∷ [])
+named x other = (λ e. omega (arith, e), (λ e. omega (arith, e), (other, tt)))
+
+-- (La)J;)V
+not-the-first : Returns firstPlace → ⊥
+unfolding firstPlace firstFrom firstIn slotsBehind renderMethod renderAll renderReturn render
+not-the-first returns =
+    let m : MethodType = record { parameters = class (97 ∷ 41 ∷ 74 ∷ []) ∷ []; result = void } in
+    let well : WellFormedMethod m = record { parameters = (record { named = named 74 (λ e. omega (arith, e)); shallow = lit≤ tt }, tt); result = tt } in
+    let wrong : SlotsOf 2 ≡ SlotsOf 0 = returns m well in
+    let z : _≡_ {A = ℕ} 2 0 = cc in
+    omega arith
+
+-- (I)La)V;
+not-the-last : Returns lastPlace → ⊥
+unfolding slotsBehind renderMethod renderAll renderReturn render
+not-the-last returns =
+    let m : MethodType = record { parameters = base int ∷ []; result = typed (class (97 ∷ 41 ∷ 86 ∷ [])) } in
+    let well : WellFormedMethod m = record { parameters = (record { named = tt; shallow = lit≤ tt }, tt); result = record { named = named 86 (λ e. omega (arith, e)); shallow = lit≤ tt } } in
+    let wrong : SlotsOf 0 ≡ SlotsOf 1 = returns m well in
+    let z : _≡_ {A = ℕ} 0 1 = cc in
+    omega arith
+
+pub return-place : ReturnPlace
+return-place =
+    record {
+      theEnd = the-end;
+      notTheFirst = not-the-first;
+      notTheLast = not-the-last;
+      endsAtOne = λ text end e. ended text end e .1;
+      endsInside = λ text end e. ended text end e .0;
+      noneBehindAll = behind-all;
+      noneUnread = unread;
+      sameAtFirst = same-place;
+      sameWithoutOne = without-one;
+    }

@@ -1,0 +1,70 @@
+-- Where a return stands (document 02, request 2), and where document 01 looked for it, as statements. proofs/Place.antt has a proof
+-- of each.
+-- Assumes nothing.
+use Prim.Native.Nat.{ℕ, _+_, _≤_, _<_}
+use mathlib.Core.Path.{_≡_}
+use mathlib.Core.List.{List, [], _∷_}
+use lib.Dec.{eqb}
+use lib.ListN.{length, take}
+use Rattle.basics.specs.Bytes.{byteAt}
+use Rattle.basics.specs.Choice.{pick}
+use Rattle.descriptor.specs.Readers.{closing, slotsBehind, returnSlots}
+use Rattle.descriptor.specs.declared.Slots.{Slots}
+use Rattle.descriptor.specs.declared.Slots.the-variants.{Slots as SlotsOf, Unreadable}
+use Rattle.fieldtype.specs.Search.{firstFrom}
+use Rattle.fieldtype.specs.declared.Found.{Found}
+use Rattle.fieldtype.specs.declared.Found.the-variants.{At, Absent}
+use Rattle.jvms.specs.Descriptor.{MethodType, renderMethod, WellFormedMethod}
+use Rattle.jvms.specs.Descriptor.{returnSlots as treeReturnSlots}
+
+-- ---- rules for the place
+
+-- document 01: "Return slots follow the first `)` anywhere in the text"
+unfoldable pub firstPlace : List ℕ → Found
+firstPlace text = firstFrom 41 text 0
+
+abbrev pub firstReturn : List ℕ → Slots
+firstReturn text = slotsBehind text (firstPlace text)
+
+-- the last one
+abbrev laterOf : Found → Found → Found
+laterOf (At later) here = At later
+laterOf Absent here = here
+
+abbrev lastIn : ℕ → List ℕ → ℕ → Found
+lastIn byte [] at = Absent
+lastIn byte (x ∷ xs) at = laterOf (lastIn byte xs (at + 1)) (pick (eqb x byte) (At at) Absent)
+
+abbrev pub lastPlace : List ℕ → Found
+lastPlace text = lastIn 41 text 0
+
+-- what stands behind the place is the return, in every well-formed descriptor
+abbrev pub Returns : (List ℕ → Found) → Type 0
+Returns place =
+    (m : MethodType) → WellFormedMethod m →
+    slotsBehind (renderMethod m) (place (renderMethod m)) ≡ SlotsOf (treeReturnSlots (m .result))
+
+-- how often a byte occurs
+abbrev pub occurs : ℕ → List ℕ → ℕ
+occurs byte [] = 0
+occurs byte (x ∷ xs) = pick (eqb x byte) 1 0 + occurs byte xs
+
+-- ---- the statements
+
+pub record ReturnPlace : Type 0 where
+  -- the return stands behind the end of the parameters, and neither behind the first `)` nor behind the last
+  pub theEnd : Returns closing
+  pub notTheFirst : Returns firstPlace → ⊥
+  pub notTheLast : Returns lastPlace → ⊥
+  -- parameters that were read end at a parenthesis or with the text
+  pub endsAtOne : (text : List ℕ) (end : ℕ) → closing text ≡ At end → end < length text → byteAt text end ≡ 41
+  pub endsInside : (text : List ℕ) (end : ℕ) → closing text ≡ At end → end ≤ length text
+  -- those that end with the text have no return behind them, and so it is where they can't be read
+  pub noneBehindAll : (text : List ℕ) (end : ℕ) → closing text ≡ At end → length text ≤ end → returnSlots text ≡ Unreadable
+  pub noneUnread : (text : List ℕ) → closing text ≡ Absent → returnSlots text ≡ Unreadable
+  -- where they end at the first `)` the return is document 01's
+  pub sameAtFirst :
+      (text : List ℕ) (end : ℕ) → closing text ≡ At end → firstPlace text ≡ At end → returnSlots text ≡ firstReturn text
+  -- and so it is of any parameters that were read, where no name of them has a `)`
+  pub sameWithoutOne :
+      (text : List ℕ) (end : ℕ) → closing text ≡ At end → occurs 41 (take end text) ≡ 0 → returnSlots text ≡ firstReturn text
