@@ -92,7 +92,8 @@ typedef struct {
 korsepal_parameters_result korsepal_parameters(const uint8_t *descriptor, size_t descriptor_count, uint8_t *output,
                                                size_t output_count);
 
-/* The slots of what a method returns, and of a field: status 0 and the slots, or 1 where they can't be read. */
+/* The slots of what a method returns, and of a field: status 0 and the slots, or 1 where they can't be read. The return follows the
+ * parenthesis that ends the parameters; parameters that can't be read, or that none ends, have no return. */
 typedef struct {
     uint32_t status;
     uint32_t slots;

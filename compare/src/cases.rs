@@ -135,6 +135,7 @@ impl Run {
             (facts.falling && !facts.wide, Listed::FallingTable),
             (facts.wide, Listed::WideTable),
             (facts.long_signature, Listed::SlotCounter),
+            (facts.parenthesis(), Listed::FirstParenthesis),
         ];
         for (holds, difference) in listed {
             if holds {
@@ -176,7 +177,7 @@ impl Run {
         let listed = facts.falling || facts.wide || facts.long_signature;
         let checked = facts.checked_message(usize::from(parts.fault));
         let panics = checked.is_none();
-        self.book.expect_checked(bytes, "message of the checked build", checked, facts.message.clone(), listed);
+        self.book.expect_checked(bytes, "message of the checked build", checked, facts.checked_expected(), listed);
         panics
     }
 
@@ -227,7 +228,7 @@ impl Run {
                 0 if length < 1_000 => self.random.below(length + 8),
                 _ => leader + self.random.below(24),
             };
-            let walked = Walked::new(&facts.wrapped, &parts.code, &mut Landings::new(leader), fault);
+            let walked = Walked::new(facts.walker(), &parts.code, &mut Landings::new(leader), fault);
             self.walk(bytes, parts, facts, leader, fault, &walked);
         }
     }

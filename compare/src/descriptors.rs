@@ -2,7 +2,7 @@
 use crate::book::Column;
 use crate::cases::Run;
 use crate::damage::damage;
-use crate::differences::Listed;
+use crate::differences::{first_parenthesis_misleads, return_slots, Listed};
 use crate::random::Random;
 use crate::sides::{quietly, Build, Checked, Holding, Wrapped};
 use korsepal::Parameters;
@@ -118,6 +118,20 @@ pub fn made(random: &mut Random) -> (&'static str, Vec<u8>) {
             let count = random.below(12);
             (KINDS[5], random.bytes(count))
         }
+    }
+}
+
+/// A method with a `)` in some names: in front of a semicolon, with a letter behind it.
+pub fn parenthesise(random: &mut Random, text: &mut Vec<u8>) {
+    let mut at = 0;
+    while let Some(name) = text[at..].iter().position(|&byte| byte == b';') {
+        at += name;
+        if !random.once_in(3) {
+            let letter = b"VJDI;)"[random.below(6)];
+            text.splice(at..at, [b')', letter]);
+            at += 2;
+        }
+        at += 1;
     }
 }
 
@@ -280,10 +294,13 @@ impl Run {
             };
             self.lender.parameters(&mut self.book, text, output, expected);
         }
-        let returned = Wrapped::return_slots(held).map(|slots| slots as u32);
-        self.book.expect(text, "return slots", korsepal::return_slots(text), returned);
-        let checked = Checked::return_slots(held).map(|slots| slots as u32);
+        let returned = return_slots::<Wrapped>(text, holding);
+        self.book.expect(text, "return slots", korsepal::return_slots(text), returned.map(|slots| slots as u32));
+        let checked = return_slots::<Checked>(text, holding);
         self.book.expect(text, "return slots by the checked build", checked, returned);
+        if first_parenthesis_misleads(text) {
+            self.book.listed(Listed::FirstParenthesis, false, Wrapped::return_slots(held) != returned);
+        }
         let field = Wrapped::field_slots(text) as u32;
         self.book.expect(text, "field slots", korsepal::field_slots(text), Some(field));
         self.book.expect(text, "field slots by the checked build", Checked::field_slots(text) as u32, field);

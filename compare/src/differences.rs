@@ -1,6 +1,7 @@
-//! The listed differences between document 01 and the Rust: when each holds of an input, and what stands in for it, so that
-//! the rest of the input is compared all the same.
-use crate::sides::{Build, Wrapped};
+//! The listed differences between the rules, documents 01 and 02, and the Rust: when each holds of an input, and what stands in
+//! for it, so that the rest of the input is compared all the same.
+use crate::layout::{Member, Parts};
+use crate::sides::{Build, Holding, Wrapped};
 use std::borrow::Cow;
 
 /// The listed differences, in the table's order.
@@ -16,15 +17,18 @@ pub enum Listed {
     NotText,
     /// The leader alone with a fault at or above 2^63: the Rust takes a target below 0 for a huge one.
     HugeFault,
+    /// The Rust takes the return from behind the first `)`: of a list with one in a name, or of one that can't be read.
+    FirstParenthesis,
 }
 
 /// Their numbers and names.
-pub const LISTED: [(&str, &str); 5] = [
+pub const LISTED: [(&str, &str); 6] = [
     ("D1", "tableswitch with high < low"),
     ("D2", "tableswitch with high - low outside 32 bits"),
     ("D3", "parameters' slots above 65,535"),
     ("D4", "texts that are not UTF-8, held byte by byte"),
     ("D5", "leader alone, fault at or above 2^63, target below 0"),
+    ("D6", "return behind a `)` that does not end the parameters"),
 ];
 
 const TABLESWITCH: u8 = 0xaa;
@@ -125,6 +129,57 @@ fn field_type(text: &[u8], at: usize) -> Option<(usize, usize)> {
     };
     let wide = base == at && matches!(text[base], b'J' | b'D');
     Some((next, if wide { 2 } else { 1 }))
+}
+
+/// Where the parameters of a descriptor end: at a `)` or with the text; `None` where they can't be read.
+fn end_of_parameters(descriptor: &[u8]) -> Option<usize> {
+    if descriptor.first() != Some(&b'(') {
+        return None;
+    }
+    let mut at = 1;
+    while at < descriptor.len() && descriptor[at] != b')' {
+        (at, _) = field_type(descriptor, at)?;
+    }
+    Some(at)
+}
+
+/// Where a parameter's name has a `)`, the descriptor with another byte in the place of each: the first `)` ends the parameters.
+pub fn without_parentheses(descriptor: &[u8]) -> Option<Vec<u8>> {
+    let end = end_of_parameters(descriptor)?;
+    if !descriptor[..end].contains(&b')') {
+        return None;
+    }
+    let mut plain = descriptor.to_vec();
+    plain[..end].iter_mut().filter(|byte| **byte == b')').for_each(|byte| *byte = b'-');
+    Some(plain)
+}
+
+/// Whether the first `)` of a descriptor is not the one that ends its parameters.
+pub fn first_parenthesis_misleads(descriptor: &[u8]) -> bool {
+    descriptor.contains(&b')') && end_of_parameters(descriptor).is_none_or(|end| descriptor[..end].contains(&b')'))
+}
+
+/// The slots of a descriptor's return by the rules: those that the Rust gives where the first `)` ends the parameters, and none
+/// where it can't read them.
+pub fn return_slots<B: Build>(descriptor: &[u8], holding: Holding) -> Option<usize> {
+    B::parameters(&holding.hold(descriptor))?;
+    let plain = without_parentheses(descriptor);
+    B::return_slots(&holding.hold(plain.as_deref().unwrap_or(descriptor)))
+}
+
+/// The parts with such descriptors in the place of their methods' own; `None` where no name has a `)`.
+pub fn plain_methods(parts: &Parts) -> Option<Parts> {
+    let named = |member: &Member| if member.is_method { without_parentheses(&member.descriptor) } else { None };
+    if !parts.members.iter().any(|member| named(member).is_some()) {
+        return None;
+    }
+    let mut plain = parts.clone();
+    for member in &mut plain.members {
+        if let Some(descriptor) = named(member) {
+            member.descriptor = descriptor;
+        }
+    }
+    Some(plain)
 }
 
 /// Where the slots of a signature's parameters pass 65,535, the signature up to the last that starts at or below it: no local

@@ -21,7 +21,8 @@ use std::path::Path;
 
 /// What the files of rows open with.
 const SAMPLE: &str = "\
-# A sample of cases and descriptors, of which no listed difference holds. The answers are the Rust's own, written by compare/sample.
+# A sample of cases and descriptors, of which no listed difference but D6 holds. The answers are the Rust's own, for D6 with its
+# stand-in (compare/README.md), written by compare/sample.
 #
 # report | case | count of cells lent | count of bytes lent => the line
 # descriptor | text => the parameters and their slots, the return's slots, and the slots as a field
@@ -43,13 +44,18 @@ const SHORT: &str = "\
 /// How many inputs go by between two progress lines.
 const STEP: u64 = 2_000;
 
+/// One made input in so many more has a `)` in its names.
+const PARENTHESISED: u64 = 10;
+
 /// The whole comparison: so many cases, so many made descriptors, and every short descriptor as the count allows.
 fn compare(seed: u64, count: u64) -> Run {
     let mut run = Run::new(seed);
     rows::compare(&mut run);
     cases(&mut run, seed, count);
+    parenthesised_cases(&mut run, seed, count / PARENTHESISED);
     rows::compare_descriptors(&mut run);
     made_descriptors(&mut run, seed, count);
+    parenthesised_descriptors(&mut run, seed, count / PARENTHESISED);
     short_descriptors(&mut run, count);
     run
 }
@@ -63,6 +69,30 @@ fn cases(run: &mut Run, seed: u64, count: u64) {
         let (name, _, make) = make::KINDS[mix[random.below(mix.len())]];
         run.book.case(name);
         run.case(&make(&mut random));
+        if done % STEP == 0 {
+            run.book.progress(done, count);
+        }
+    }
+}
+
+fn parenthesised_cases(run: &mut Run, seed: u64, count: u64) {
+    let mut random = Random::new(seed ^ 0x7061_7265);
+    for done in 0..count {
+        run.book.case("parenthesis in a name");
+        run.case(&make::parenthesised(&mut random));
+        if done % STEP == 0 {
+            run.book.progress(done, count);
+        }
+    }
+}
+
+fn parenthesised_descriptors(run: &mut Run, seed: u64, count: u64) {
+    let mut random = Random::new(seed ^ 0x6e61_6d65);
+    for done in 0..count {
+        let mut text = descriptors::any_method(&mut random);
+        descriptors::parenthesise(&mut random, &mut text);
+        run.book.descriptor("name with parenthesis");
+        run.descriptor(&text);
         if done % STEP == 0 {
             run.book.progress(done, count);
         }

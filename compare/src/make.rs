@@ -1,6 +1,6 @@
 //! Inputs: cases with structure, damaged ones, cases at the edges, and random bytes.
 use crate::damage::damage;
-use crate::descriptors::{any_method, any_type};
+use crate::descriptors::{any_method, any_type, parenthesise};
 use crate::layout::{lay_out, Member, Parts, Record};
 use crate::random::Random;
 use crate::sides::{Build, Holding, Wrapped};
@@ -427,6 +427,13 @@ fn damaged_layout(random: &mut Random) -> Vec<u8> {
     let mut bytes = structured(random);
     damage(random, &mut bytes);
     bytes
+}
+
+/// A case with structure, and then a `)` in names of its methods' parameters, which takes none of their slots.
+pub fn parenthesised(random: &mut Random) -> Vec<u8> {
+    let mut parts = parts(random);
+    parts.members.iter_mut().filter(|member| member.is_method).for_each(|member| parenthesise(random, &mut member.descriptor));
+    lay_out(&parts)
 }
 
 /// Random bytes as a case, and as the code of one.

@@ -2,10 +2,11 @@
 //! the listed differences, with what each side says.
 use crate::cases::Run;
 use crate::descriptors::STRICT_WRAPPED;
+use crate::differences::return_slots;
 use crate::layout::{lay_out, Member, Parts, Record};
 use crate::rule::Facts;
 use crate::sample::line;
-use crate::sides::{quietly, Build, Checked, Held, Wrapped};
+use crate::sides::{quietly, Build, Checked, Held, Holding, Wrapped};
 
 /// Default 0, low 0, high 1 and two entries.
 const TABLE: [u8; 20] = [0, 0, 0, 0, 0, 0, 0, 0, 0, 0, 0, 1, 0, 0, 0, 0, 0, 0, 0, 0];
@@ -42,6 +43,18 @@ fn example() -> Parts {
     Parts { members: vec![length], ..bare(&[0x2a, 0xb6, 0, 1, 0x57, 0xb1], 1, b"m:(Ljava/lang/String;)V") }
 }
 
+/// The length of an array behind a static call with a descriptor, which local 1 was loaded for.
+fn measured(descriptor: &[u8]) -> Parts {
+    let called = Member {
+        index: 1,
+        is_method: true,
+        class: b"a".to_vec(),
+        name: b"m".to_vec(),
+        descriptor: descriptor.to_vec(),
+    };
+    Parts { members: vec![called], ..bare(&[0x2a, 0x2b, 0xb8, 0, 1, 0xbe], 5, b"") }
+}
+
 /// A record that names local 0 from index 2 on, for a length.
 fn named(code: &[u8], length: u16) -> Parts {
     let record = Record { start: 2, length, slot: 0, name: b"n".to_vec() };
@@ -69,17 +82,23 @@ fn case_rows() -> Vec<(Parts, &'static str)> {
         (bare(&[0x2a, 0xbe], 1, b"m:)I"), "0 2 2 1 ~ because \"<parameter1>\" is null"),
         (bare(&[0x2a, 0xbe], 1, b"m:JI"), "0 2 2 1 ~ because \"<parameter1>\" is null"),
         (bare(&[0x2b, 0xbe], 1, b"m:(IV"), "0 2 2 1 ~ because \"<local1>\" is null"),
+        (measured(b"(La)V;)J"), "0 1 4 3 ~"),
+        (measured(b"(La)J;)V"), "0 2 4 3 ~ because \"<local0>\" is null"),
+        (measured(b"(La)V;"), "0 1 4 2 ~"),
     ]
 }
 
 /// A descriptor, and its slots, return slots and list.
-const LENIENT_ROWS: [(&str, &str); 6] = [
+const LENIENT_ROWS: [(&str, &str); 9] = [
     ("(IJ[D)V", "4 0 int, long, double[]"),
-    ("(La)J;)V", "1 2 a)J"),
+    ("(La)J;)V", "1 0 a)J"),
+    ("(I)La)V;", "1 1 int"),
+    ("(La)J;", "1 - a)J"),
     ("(I", "1 - int"),
     ("()", "0 - "),
     ("(L;)V", "1 0 "),
-    ("(V)V", "- 0 "),
+    ("(V)V", "- - "),
+    (")V", "- - "),
 ];
 
 /// A descriptor, whether it is read as a method, and the refusal or the numbers.
@@ -114,7 +133,7 @@ fn lenient(text: &str) -> Vec<u8> {
         Some((names, slots)) => (slots.to_string(), names.join(", ")),
         None => ("-".to_string(), String::new()),
     };
-    let returned = Wrapped::return_slots(text).map_or("-".to_string(), |slots| slots.to_string());
+    let returned = return_slots::<Wrapped>(text.as_bytes(), Holding::AsItIs).map_or("-".to_string(), |slots| slots.to_string());
     format!("{slots} {returned} {list}").into_bytes()
 }
 
@@ -204,6 +223,26 @@ pub fn print_listed() {
         checked,
         words(quietly(|| Wrapped::leader(&code, usize::MAX))),
     );
+    for text in ["(La)J;)V", "(La)J;", "(V)I", ")V"] {
+        let checked = words(quietly(|| Checked::return_slots(text)));
+        let wrapped = words(quietly(|| Wrapped::return_slots(text)));
+        print_line(&format!("D6 return slots: {text}"), format!("{:?}", korsepal::return_slots(text.as_bytes())), checked, wrapped);
+    }
+    for descriptor in ["(La)V;)J", "(La)J;)V", "(La)V;"] {
+        print_measured(descriptor);
+    }
+}
+
+/// The line of a length behind a call.
+fn print_measured(descriptor: &str) {
+    let parts = measured(descriptor.as_bytes());
+    let library = line(korsepal::report(&lay_out(&parts), &mut [0; 16], &mut [0; 128]));
+    let held = Held::new(&parts, &parts.signature);
+    let (checked, wrapped) = (Checked::over(&parts, &held), Wrapped::over(&parts, &held));
+    println!("D6 message: 2a 2b b8 00 01 be, fault 5, method 1 {descriptor}");
+    println!("    library  {}", String::from_utf8_lossy(&library));
+    println!("    checked  {}", words(quietly(|| checked.message(5))));
+    println!("    wrapped  {}", words(quietly(|| wrapped.message(5))));
 }
 
 /// The name of local 1 by a long signature.

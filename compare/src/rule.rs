@@ -2,7 +2,7 @@
 //!
 //! The walk from a leader lands at an index exactly when `simulate_block` reaches it. So its landings, their number and their
 //! heights are the Rust's own.
-use crate::differences::{cut_signature, scan};
+use crate::differences::{cut_signature, plain_methods, scan};
 use crate::layout::Parts;
 use crate::sides::{quietly, Build, Checked, Held, Holding, Origin, Wrapped};
 use korsepal::{Answer, Walk};
@@ -105,12 +105,15 @@ pub struct Facts {
     pub holding: Holding,
     pub checked: Checked,
     pub wrapped: Wrapped,
+    /// The wrapped build over descriptors without a `)` in a name, where the case's own have one.
+    plain: Option<Wrapped>,
     /// A table of the scan has high < low, or leaves 32 bits.
     pub falling: bool,
     pub wide: bool,
     /// The slots of the parameters pass 65,535.
     pub long_signature: bool,
-    /// The wrapped build's own message is another than document 01's.
+    /// The wrapped build's own message, and whether it is another than that of the rules.
+    own_message: Option<Vec<u8>>,
     pub wrapped_differs: bool,
     pub action: Option<Vec<u8>>,
     pub message: Option<Vec<u8>>,
@@ -119,10 +122,10 @@ pub struct Facts {
     pub walked: Option<Walked>,
 }
 
-/// The message put together as `build_message` does, for a leader that stands in for its own.
-fn composed(side: &Wrapped, code: &[u8], leader: Option<usize>, fault: usize) -> Option<String> {
+/// The message put together as `build_message` does, for a leader and a walk that stand in for its own.
+fn composed(side: &Wrapped, walker: &Wrapped, code: &[u8], leader: Option<usize>, fault: usize) -> Option<String> {
     let (action, depth) = side.action(code, fault)?;
-    let slots = leader.and_then(|leader| side.walk(code, leader, fault)).unwrap_or_default();
+    let slots = leader.and_then(|leader| walker.walk(code, leader, fault)).unwrap_or_default();
     let origin = slots.len().checked_sub(1 + depth).and_then(|place| slots[place]);
     Some(match origin {
         Some((local, load)) => format!("{action} because \"{}\" is null", side.name(local, load)),
@@ -140,25 +143,31 @@ impl Facts {
         let code = &parts.code;
         let fault = usize::from(parts.fault);
         let cut = cut_signature(&parts.signature, parts.flags & 8 != 0);
-        let held = Held::new(parts, cut.unwrap_or(&parts.signature));
+        let signature = cut.unwrap_or(&parts.signature);
+        let held = Held::new(parts, signature);
         let wrapped = Wrapped::over(parts, &held);
+        let plain = plain_methods(parts).map(|plain| Wrapped::over(&plain, &Held::new(&plain, signature)));
         let whole = if cut.is_some() { Held::new(parts, &parts.signature) } else { held };
         let checked = Checked::over(parts, &whole);
         let scan = scan(code);
         let leader = Wrapped::leader(&scan.code, fault);
-        let message = if scan.wide { composed(&wrapped, code, leader, fault) } else { wrapped.message(fault) };
-        let wrapped_differs = (scan.wide || cut.is_some()) && Wrapped::over(parts, &whole).message(fault) != message;
+        let walker = plain.as_ref().unwrap_or(&wrapped);
+        let stands_in = scan.wide || plain.is_some();
+        let message = if stands_in { composed(&wrapped, walker, code, leader, fault) } else { wrapped.message(fault) };
+        let own_message = if stands_in || cut.is_some() { Wrapped::over(parts, &whole).message(fault) } else { message.clone() };
+        let wrapped_differs = own_message != message;
         let holding = whole.holding;
         let walked = leader.map(|leader| {
             let kept = landings.take().filter(|kept| kept.leader == leader);
             let landings = landings.insert(kept.unwrap_or(Landings::new(leader)));
-            Walked::new(&wrapped, code, landings, fault)
+            Walked::new(walker, code, landings, fault)
         });
         Facts {
             holding,
             falling: scan.falling,
             wide: scan.wide,
             long_signature: cut.is_some(),
+            own_message: own_message.map(|message| holding.release(message)),
             wrapped_differs,
             action: wrapped.action(code, fault).map(|(action, _)| holding.release(action)),
             message: message.map(|message| holding.release(message)),
@@ -167,10 +176,26 @@ impl Facts {
             walked,
             checked,
             wrapped,
+            plain,
         }
     }
 
-    /// Whether some listed difference holds of the case.
+    /// A name of a method's parameters has a `)`.
+    pub fn parenthesis(&self) -> bool {
+        self.plain.is_some()
+    }
+
+    /// The build that walks by the rules.
+    pub fn walker(&self) -> &Wrapped {
+        self.plain.as_ref().unwrap_or(&self.wrapped)
+    }
+
+    /// The message that the checked build must give where it does not panic.
+    pub fn checked_expected(&self) -> Option<Vec<u8>> {
+        if self.parenthesis() { self.own_message.clone() } else { self.message.clone() }
+    }
+
+    /// Whether some listed difference but that of the parenthesis holds of the case.
     pub fn listed(&self) -> bool {
         self.falling || self.wide || self.long_signature || self.holding == Holding::ByteByByte
     }

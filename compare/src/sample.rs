@@ -1,12 +1,13 @@
 //! Rows of data with the Rust's own answers, for the program `replay`, which runs where the Rust is not at hand: a sample of cases
-//! and descriptors of which no listed difference holds, and every short text over eight letters for the strict readers.
+//! and descriptors of which no listed difference but D6 holds, and every short text over eight letters for the strict readers.
 //! crates/replay/README.md says how rows are written.
 use crate::descriptors::{made, Strict, STRICT_WRAPPED};
+use crate::differences::return_slots;
 use crate::layout::{self, Wrong};
 use crate::make;
 use crate::random::Random;
 use crate::rule::Facts;
-use crate::sides::{Build, Wrapped};
+use crate::sides::{Build, Holding, Wrapped};
 use korsepal::{Answer, Parameters};
 use std::collections::HashMap;
 
@@ -84,7 +85,7 @@ pub fn line(answer: Answer) -> Vec<u8> {
     }
 }
 
-/// The row of a case and its sort; `None` where a listed difference holds of it.
+/// The row of a case and its sort; `None` where a listed difference but D6 holds of it.
 fn case(bytes: &[u8]) -> Option<(Row, usize)> {
     let (answer, sort) = match layout::read(bytes) {
         Err(Wrong::TooLong) => return None,
@@ -150,7 +151,7 @@ fn lenient(text: &str) -> Row {
     let (input, mut output) = (text.as_bytes(), [0; 8 * LONGEST]);
     let read = Wrapped::parameters(text).map(|(names, slots)| (names.join(", ").into_bytes(), slots as u64));
     let parameters = read.as_ref().map(|(list, slots)| (&list[..], *slots));
-    let returned = Wrapped::return_slots(text).map(|slots| slots as u64);
+    let returned = return_slots::<Wrapped>(input, Holding::AsItIs).map(|slots| slots as u64);
     let answer = lenient_text(parameters, returned, Wrapped::field_slots(input) as u64);
     let parameters = match korsepal::parameters(input, &mut output) {
         Parameters::Read { list, slots } => Some((list, slots)),

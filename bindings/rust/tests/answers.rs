@@ -141,7 +141,9 @@ fn descriptors() {
     assert_eq!(parameters(b"(IJ[D)V", &mut output), Parameters::Read { list: b"int, long, double[]", slots: 4 });
     assert_eq!(parameters(b"(IJ[D)V", &mut []), Parameters::NoOutput { needed: 19 });
     assert_eq!(parameters(b"(V)V", &mut output), Parameters::Unreadable);
-    assert_eq!(return_slots(b"(La)J;)V"), Some(2));
+    assert_eq!(return_slots(b"(La)J;)V"), Some(0));
+    assert_eq!(return_slots(b"(La)V;)J"), Some(2));
+    assert_eq!(return_slots(b"(V)I"), None);
     assert_eq!(return_slots(b"("), None);
     assert_eq!(field_slots(b""), Some(1));
     assert_eq!(field_slots(b"J"), Some(2));

@@ -151,6 +151,6 @@ fn show_all(names: &[u8]) {
 
 fn main() {
     show_all(
-        b"lengths\nleaders\nwalks\nnames\nlocals\nstrict\nshort\ncases\nlines\nsample\nwrong\n",
+        b"lengths\nleaders\nwalks\nnames\nlocals\nstrict\nshort\ncases\nlines\nrequests\nsample\nwrong\n",
     );
 }
