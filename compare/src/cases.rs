@@ -131,15 +131,17 @@ impl Run {
             Answer::Message { .. } => Column::Action,
             _ => Column::NoMessage,
         });
+        // Where several hold, a panic is not of the parenthesis, and another message is.
+        let differs = facts.wrapped_differs && !facts.parenthesis();
         let listed = [
-            (facts.falling && !facts.wide, Listed::FallingTable),
-            (facts.wide, Listed::WideTable),
-            (facts.long_signature, Listed::SlotCounter),
-            (facts.parenthesis(), Listed::FirstParenthesis),
+            (facts.falling && !facts.wide, Listed::FallingTable, checked_panics, differs),
+            (facts.wide, Listed::WideTable, checked_panics, differs),
+            (facts.long_signature, Listed::SlotCounter, checked_panics, differs),
+            (facts.parenthesis(), Listed::FirstParenthesis, false, facts.wrapped_differs),
         ];
-        for (holds, difference) in listed {
+        for (holds, difference, panics, differs) in listed {
             if holds {
-                self.book.listed(difference, checked_panics, facts.wrapped_differs);
+                self.book.listed(difference, panics, differs);
             }
         }
         if facts.holding == Holding::ByteByByte {

@@ -299,7 +299,7 @@ impl Run {
         let checked = return_slots::<Checked>(text, holding);
         self.book.expect(text, "return slots by the checked build", checked, returned);
         if first_parenthesis_misleads(text) {
-            self.book.listed(Listed::FirstParenthesis, false, Wrapped::return_slots(held) != returned);
+            self.book.listed(Listed::ReturnAlone, false, Wrapped::return_slots(held) != returned);
         }
         let field = Wrapped::field_slots(text) as u32;
         self.book.expect(text, "field slots", korsepal::field_slots(text), Some(field));

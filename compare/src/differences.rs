@@ -17,18 +17,21 @@ pub enum Listed {
     NotText,
     /// The leader alone with a fault at or above 2^63: the Rust takes a target below 0 for a huge one.
     HugeFault,
-    /// The Rust takes the return from behind the first `)`: of a list with one in a name, or of one that can't be read.
+    /// A parameter's name of a method has a `)`: the Rust takes the return from behind the first.
     FirstParenthesis,
+    /// A return alone: the same, and so of parameters that can't be read.
+    ReturnAlone,
 }
 
 /// Their numbers and names.
-pub const LISTED: [(&str, &str); 6] = [
+pub const LISTED: [(&str, &str); 7] = [
     ("D1", "tableswitch with high < low"),
     ("D2", "tableswitch with high - low outside 32 bits"),
     ("D3", "parameters' slots above 65,535"),
     ("D4", "texts that are not UTF-8, held byte by byte"),
     ("D5", "leader alone, fault at or above 2^63, target below 0"),
-    ("D6", "return behind a `)` that does not end the parameters"),
+    ("D6", "method of a case with a `)` in a parameter's name"),
+    ("D6", "return alone, behind such parameters or unreadable ones"),
 ];
 
 const TABLESWITCH: u8 = 0xaa;

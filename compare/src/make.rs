@@ -432,7 +432,9 @@ fn damaged_layout(random: &mut Random) -> Vec<u8> {
 /// A case with structure, and then a `)` in names of its methods' parameters, which takes none of their slots.
 pub fn parenthesised(random: &mut Random) -> Vec<u8> {
     let mut parts = parts(random);
-    parts.members.iter_mut().filter(|member| member.is_method).for_each(|member| parenthesise(random, &mut member.descriptor));
+    for member in parts.members.iter_mut().filter(|member| member.is_method) {
+        parenthesise(random, &mut member.descriptor);
+    }
     lay_out(&parts)
 }
 

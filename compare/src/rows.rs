@@ -133,7 +133,8 @@ fn lenient(text: &str) -> Vec<u8> {
         Some((names, slots)) => (slots.to_string(), names.join(", ")),
         None => ("-".to_string(), String::new()),
     };
-    let returned = return_slots::<Wrapped>(text.as_bytes(), Holding::AsItIs).map_or("-".to_string(), |slots| slots.to_string());
+    let returned = return_slots::<Wrapped>(text.as_bytes(), Holding::AsItIs);
+    let returned = returned.map_or("-".to_string(), |slots| slots.to_string());
     format!("{slots} {returned} {list}").into_bytes()
 }
 
@@ -224,9 +225,10 @@ pub fn print_listed() {
         words(quietly(|| Wrapped::leader(&code, usize::MAX))),
     );
     for text in ["(La)J;)V", "(La)J;", "(V)I", ")V"] {
+        let library = format!("{:?}", korsepal::return_slots(text.as_bytes()));
         let checked = words(quietly(|| Checked::return_slots(text)));
         let wrapped = words(quietly(|| Wrapped::return_slots(text)));
-        print_line(&format!("D6 return slots: {text}"), format!("{:?}", korsepal::return_slots(text.as_bytes())), checked, wrapped);
+        print_line(&format!("D6 return slots: {text}"), library, checked, wrapped);
     }
     for descriptor in ["(La)V;)J", "(La)J;)V", "(La)V;"] {
         print_measured(descriptor);

@@ -154,8 +154,8 @@ impl Facts {
         let walker = plain.as_ref().unwrap_or(&wrapped);
         let stands_in = scan.wide || plain.is_some();
         let message = if stands_in { composed(&wrapped, walker, code, leader, fault) } else { wrapped.message(fault) };
-        let own_message = if stands_in || cut.is_some() { Wrapped::over(parts, &whole).message(fault) } else { message.clone() };
-        let wrapped_differs = own_message != message;
+        let differs = stands_in || cut.is_some();
+        let own_message = if differs { Wrapped::over(parts, &whole).message(fault) } else { message.clone() };
         let holding = whole.holding;
         let walked = leader.map(|leader| {
             let kept = landings.take().filter(|kept| kept.leader == leader);
@@ -167,8 +167,8 @@ impl Facts {
             falling: scan.falling,
             wide: scan.wide,
             long_signature: cut.is_some(),
+            wrapped_differs: own_message != message,
             own_message: own_message.map(|message| holding.release(message)),
-            wrapped_differs,
             action: wrapped.action(code, fault).map(|(action, _)| holding.release(action)),
             message: message.map(|message| holding.release(message)),
             scan: scan.count,
@@ -192,7 +192,8 @@ impl Facts {
 
     /// The message that the checked build must give where it does not panic.
     pub fn checked_expected(&self) -> Option<Vec<u8>> {
-        if self.parenthesis() { self.own_message.clone() } else { self.message.clone() }
+        let expected = if self.parenthesis() { &self.own_message } else { &self.message };
+        expected.clone()
     }
 
     /// Whether some listed difference but that of the parenthesis holds of the case.

@@ -1,8 +1,8 @@
 -- What the lenient readers answer of a whole descriptor (document 01, "Descriptors" and "Action and cause"; document 02, request 2).
 -- Assumes nothing.
 use Prim.Native.Nat.{ℕ, _+_}
-use mathlib.Core.Bool.{Bool, true, false}
-use mathlib.Core.List.{List, []}
+use mathlib.Core.Bool.{Bool}
+use mathlib.Core.List.{List}
 use lib.Dec.{eqb, leb}
 use lib.ListN.{length}
 use Rattle.basics.specs.Bytes.{byteAt}

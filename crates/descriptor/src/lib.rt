@@ -5,8 +5,6 @@ use fieldtype::is_wide;
 use fieldtype::parse_field_type;
 use fieldtype::type_slots;
 ghost use mathlib.Core.Path.{_≡_};
-ghost use Prim.Native.Nat.{_+_, _≤_};
-ghost use lib.ListN.{length, drop};
 ghost use Rattle.basics.specs.Choice.{pick};
 ghost use Rattle.fieldtype.specs.declared.Found.the-variants.{At};
 ghost use Rattle.descriptor.specs.Readers.{parameters, parameterAt, slotsBehind, returnSlots, fieldSlots};

@@ -1,30 +1,29 @@
 -- The lenient readers on a text that is written from a tree.
 -- Assumes nothing.
-use Prim.Native.Nat.{ℕ, zero, suc, _+_, _-_, _≤_, _<_}
+use Prim.Native.Nat.{ℕ, zero, suc, _+_, _-_, _<_}
 use native.Mathlib.Numerals.{add-one}
 use native.Mathlib.Omega.{arith}
 use mathlib.Core.Path.{_≡_, refl, _∙_, sym, ap, ap₂, subst}
-use mathlib.Core.Bool.{Bool, true, false}
+use mathlib.Core.Bool.{false}
 use mathlib.Core.List.{List, [], _∷_, _++_, append-assoc}
 use lib.Dec.{eqb}
-use lib.ListN.{length, take, drop, getD, length-append}
-use lib.Seq.{drop-at, take-at, getD-append-add}
+use lib.ListN.{length, take, drop, length-append}
+use lib.Seq.{drop-at, take-at}
 use borrow.Author.Tests.{ne-eqb, lt-leb}
 use Rattle.basics.specs.Ascii.{ascii}
 use Rattle.basics.specs.Bytes.{byteAt}
 use Rattle.basics.specs.Choice.{pick, both}
 use Rattle.fieldtype.specs.Search.{firstIn, firstFrom}
-use Rattle.fieldtype.specs.Types.{brackets, classType, baseType, typeBehind, fieldTypeAt, isWide, typeSlots, Types, over, unread, one, typesAt, typesOf}
+use Rattle.fieldtype.specs.Types.{brackets, baseType, typeBehind, fieldTypeAt, isWide, typeSlots, Types, over, one, typesAt, typesOf}
 use Rattle.descriptor.specs.Readers.{slotsOf, judged, parameters, slotsBehind, returnSlots, fieldSlots}
 use Rattle.fieldtype.specs.declared.FieldType.{FieldType}
-use Rattle.fieldtype.specs.declared.Found.the-variants.{At, Absent}
+use Rattle.fieldtype.specs.declared.Found.the-variants.{At}
 use Rattle.descriptor.specs.declared.Params.the-variants.{Read}
-use Rattle.descriptor.specs.declared.Slots.{Slots}
-use Rattle.descriptor.specs.declared.Slots.the-variants.{Slots as SlotsOf, Unreadable as UnreadableSlots}
-use Rattle.fieldtype.specs.declared.Taken.the-variants.{Field, Unreadable}
+use Rattle.descriptor.specs.declared.Slots.the-variants.{Slots as SlotsOf}
+use Rattle.fieldtype.specs.declared.Taken.the-variants.{Field}
 use Rattle.jvms.specs.Descriptor.{BaseType, byte, char, double, float, int, long, short, boolean, letter}
-use Rattle.jvms.specs.Descriptor.{base, class, array, render, renderAll, renderReturn, renderMethod, dimensions, NoSemicolon, ClassName, Named, AllWellFormed}
-use Rattle.jvms.specs.Descriptor.{ReturnType, void, typed, MethodType, WellFormed, WellFormedMethod, slots, slotsAll}
+use Rattle.jvms.specs.Descriptor.{base, class, array, render, renderAll, renderReturn, renderMethod, dimensions, NoSemicolon, Named, AllWellFormed}
+use Rattle.jvms.specs.Descriptor.{ReturnType, void, typed, MethodType, WellFormedMethod, slots, slotsAll}
 use Rattle.jvms.specs.Descriptor.{FieldType as Tree, returnSlots as treeReturnSlots}
 use Rattle.jvms.proofs.Rendering.{not-closing, spelled}
 use Rattle.descriptor.proofs.Listing.{list-closed, list-one}

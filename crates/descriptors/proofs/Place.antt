@@ -8,23 +8,22 @@ use mathlib.Core.Path.{_≡_, refl, _∙_, sym, ap, subst}
 use mathlib.Core.Bool.{Bool, true, false}
 use mathlib.Core.List.{List, [], _∷_}
 use lib.Dec.{eqb, lit≤}
-use lib.ListN.{length, take}
-use borrow.Author.Tests.{eqb-true, le-leb, lt-leb, eq-eqb}
+use lib.ListN.{length, take, drop}
+use borrow.Author.Tests.{eqb-true, le-leb, lt-leb}
 use Rattle.basics.specs.Bytes.{byteAt}
 use Rattle.basics.specs.Choice.{pick}
 use Rattle.descriptor.specs.Readers.{slotsOf, judged, parameters, endOf, closing, slotsBehind, returnSlots}
 use Rattle.descriptor.specs.declared.Params.{Params}
 use Rattle.descriptor.specs.declared.Params.the-variants.{Read, Unreadable as UnreadableParams}
-use Rattle.descriptor.specs.declared.Slots.{Slots}
 use Rattle.descriptor.specs.declared.Slots.the-variants.{Slots as SlotsOf, Unreadable}
 use Rattle.fieldtype.specs.Search.{firstIn, firstFrom}
-use Rattle.fieldtype.specs.Types.{fieldTypeAt, Inside, takenInside, typesStep, listOver, typesFrom, typesAt, typesOf}
-use Rattle.fieldtype.specs.declared.Found.{Found}
+use Rattle.fieldtype.specs.Types.{fieldTypeAt, takenInside, typesStep, listOver, typesFrom, typesAt, typesOf}
 use Rattle.fieldtype.specs.declared.Found.the-variants.{At, Absent}
 use Rattle.fieldtype.specs.declared.Taken.{Taken}
 use Rattle.fieldtype.specs.declared.Taken.the-variants.{Field, Unreadable as UnreadableType}
 use Rattle.fieldtype.proofs.Bounds.{taken-inside}
-use Rattle.jvms.specs.Descriptor.{int, base, class, void, typed, MethodType, render, renderAll, renderReturn, renderMethod, ClassName, WellFormedMethod}
+use Rattle.fieldtype.proofs.Steps.{found-here, found-nowhere}
+use Rattle.jvms.specs.Descriptor.{int, base, class, void, typed, MethodType, render, renderAll, renderReturn, renderMethod, WellFormed, WellFormedMethod}
 use Rattle.descriptors.specs.Place.{firstPlace, firstReturn, lastPlace, Returns, occurs, ReturnPlace}
 use Rattle.descriptors.proofs.Agree.{lenient-agrees}
 
@@ -83,36 +82,27 @@ module _ (text : List ℕ) where
 
 -- ---- the first parenthesis
 
-first-at :
-    (text : List ℕ) (end from : ℕ) → occurs 41 (take end text) ≡ 0 → end < length text → byteAt text end ≡ 41 →
-    firstIn 41 text from ≡ At (from + end)
+-- where none stands before a place, the search may begin there
+none-before :
+    (text : List ℕ) (end from : ℕ) → occurs 41 (take end text) ≡ 0 → firstIn 41 text from ≡ firstIn 41 (drop end text) (from + end)
 unfolding firstIn
-first-at [] end from none below here = absurd (omega arith)
-first-at (x ∷ xs) zero from none below here = rw (eq-eqb x 41 here) (ap At (omega arith))
-first-at (x ∷ xs) (suc end) from none below here =
-    by-test (eqb x 41) none (λ q. first-at xs end (from + 1) q (omega arith) here)
+none-before [] zero from none = refl
+none-before [] (suc end) from none = refl
+none-before (x ∷ xs) zero from none = ap (firstIn 41 (x ∷ xs)) (omega arith)
+none-before (x ∷ xs) (suc end) from none = by-test (eqb x 41) none (none-before xs end (from + 1))
   where
     by-test :
         (b : Bool) → pick b 1 0 + occurs 41 (take end xs) ≡ 0 →
-        (occurs 41 (take end xs) ≡ 0 → firstIn 41 xs (from + 1) ≡ At (from + 1 + end)) →
-        pick b (At from) (firstIn 41 xs (from + 1)) ≡ At (from + suc end)
+        (occurs 41 (take end xs) ≡ 0 → firstIn 41 xs (from + 1) ≡ firstIn 41 (drop end xs) (from + 1 + end)) →
+        pick b (At from) (firstIn 41 xs (from + 1)) ≡ firstIn 41 (drop end xs) (from + suc end)
     by-test true z further = absurd (omega arith)
-    by-test false z further = further (omega arith) ∙ ap At (omega arith)
+    by-test false z further = further (omega arith) ∙ ap (firstIn 41 (drop end xs)) (omega arith)
 
-first-none : (text : List ℕ) (end from : ℕ) → occurs 41 (take end text) ≡ 0 → length text ≤ end → firstIn 41 text from ≡ Absent
-unfolding firstIn
-first-none [] end from none past = refl
-first-none (x ∷ xs) zero from none past = absurd (omega arith)
-first-none (x ∷ xs) (suc end) from none past = by-test (eqb x 41) none (λ q. first-none xs end (from + 1) q (omega arith))
-  where
-    by-test :
-        (b : Bool) → pick b 1 0 + occurs 41 (take end xs) ≡ 0 →
-        (occurs 41 (take end xs) ≡ 0 → firstIn 41 xs (from + 1) ≡ Absent) →
-        pick b (At from) (firstIn 41 xs (from + 1)) ≡ Absent
-    by-test true z further = absurd (omega arith)
-    by-test false z further = further (omega arith)
+first-is : (text : List ℕ) (end : ℕ) → occurs 41 (take end text) ≡ 0 → firstPlace text ≡ firstFrom 41 text end
+unfolding firstPlace firstFrom
+first-is text end none = none-before text end 0 none ∙ ap (firstIn 41 (drop end text)) (omega arith)
 
--- ---- the statements
+-- ---- what that says of the return
 
 module _ (text : List ℕ) where
   behind-all : (end : ℕ) → closing text ≡ At end → length text ≤ end → returnSlots text ≡ Unreadable
@@ -128,17 +118,16 @@ module _ (text : List ℕ) where
   same-place end e first = ap (slotsBehind text) (e ∙ sym first)
 
   without-one : (end : ℕ) → closing text ≡ At end → occurs 41 (take end text) ≡ 0 → returnSlots text ≡ firstReturn text
-  unfolding firstPlace firstFrom slotsBehind
+  unfolding slotsBehind
   without-one end e none =
+      let first : firstPlace text ≡ firstFrom 41 text end = first-is text end none in
       ⊎-elim
       (λ (all : end ≡ length text).
-      behind-all end e (omega arith) ∙ sym (nothing (first-none text end 0 none (omega arith))))
+      behind-all end e (omega arith)
+      ∙ sym (ap (slotsBehind text) (first ∙ sym (found-nowhere text end 41 (omega arith)))))
       (λ (below : end < length text).
-      same-place end e (first-at text end 0 none below (ended text end e .1 below) ∙ ap At (omega arith)))
+      same-place end e (first ∙ sym (found-here text end 41 below (ended text end e .1 below))))
       (eq-or-lt-of-le (ended text end e .0))
-    where
-      nothing : firstIn 41 text 0 ≡ Absent → firstReturn text ≡ Unreadable
-      nothing q = rw q
 
 -- ---- the end of the list, the first parenthesis and the last
 
@@ -146,15 +135,16 @@ the-end : Returns closing
 unfolding returnSlots
 the-end m well = lenient-agrees .sameReturn m well
 
-named : (x : ℕ) → (x ≡ 59 → ⊥) → ClassName (97 ∷ 41 ∷ x ∷ [])
-named x other = (λ e. omega (arith, e), (λ e. omega (arith, e), (other, tt)))
+-- a class named by a, a parenthesis and a letter
+lettered : (x : ℕ) → (x ≡ 59 → ⊥) → WellFormed (class (97 ∷ 41 ∷ x ∷ []))
+lettered x other = record { named = (λ e. omega (arith, e), (λ e. omega (arith, e), (other, tt))); shallow = lit≤ tt }
 
 -- (La)J;)V
 not-the-first : Returns firstPlace → ⊥
 unfolding firstPlace firstFrom firstIn slotsBehind renderMethod renderAll renderReturn render
 not-the-first returns =
     let m : MethodType = record { parameters = class (97 ∷ 41 ∷ 74 ∷ []) ∷ []; result = void } in
-    let well : WellFormedMethod m = record { parameters = (record { named = named 74 (λ e. omega (arith, e)); shallow = lit≤ tt }, tt); result = tt } in
+    let well : WellFormedMethod m = record { parameters = (lettered 74 (λ e. omega (arith, e)), tt); result = tt } in
     let wrong : SlotsOf 2 ≡ SlotsOf 0 = returns m well in
     let z : _≡_ {A = ℕ} 2 0 = cc in
     omega arith
@@ -164,10 +154,13 @@ not-the-last : Returns lastPlace → ⊥
 unfolding slotsBehind renderMethod renderAll renderReturn render
 not-the-last returns =
     let m : MethodType = record { parameters = base int ∷ []; result = typed (class (97 ∷ 41 ∷ 86 ∷ [])) } in
-    let well : WellFormedMethod m = record { parameters = (record { named = tt; shallow = lit≤ tt }, tt); result = record { named = named 86 (λ e. omega (arith, e)); shallow = lit≤ tt } } in
+    let whole : WellFormed (base int) = record { named = tt; shallow = lit≤ tt } in
+    let well : WellFormedMethod m = record { parameters = (whole, tt); result = lettered 86 (λ e. omega (arith, e)) } in
     let wrong : SlotsOf 0 ≡ SlotsOf 1 = returns m well in
     let z : _≡_ {A = ℕ} 0 1 = cc in
     omega arith
+
+-- ---- the statements
 
 pub return-place : ReturnPlace
 return-place =

@@ -6,7 +6,7 @@ use mathlib.Core.Path.{_≡_}
 use mathlib.Core.List.{List, [], _∷_}
 use lib.ListN.{length, take, drop}
 use Rattle.descriptor.specs.Readers.{parameters, returnSlots, fieldSlots}
-use Rattle.fieldtype.specs.Types.{Types, over, unread, one, typesOf}
+use Rattle.fieldtype.specs.Types.{Types, over, one, typesOf}
 use Rattle.fieldtype.specs.declared.FieldType.{FieldType}
 use Rattle.descriptor.specs.declared.Params.the-variants.{Read}
 use Rattle.descriptor.specs.declared.Slots.the-variants.{Slots as SlotsOf}
