@@ -131,7 +131,7 @@ impl Run {
             Answer::Message { .. } => Column::Action,
             _ => Column::NoMessage,
         });
-        // Where several hold, a panic is not of the parenthesis, and another message is.
+        // Where D6 holds beside others, another message is counted to it, and a panic to them.
         let differs = facts.wrapped_differs && !facts.parenthesis();
         let listed = [
             (facts.falling && !facts.wide, Listed::FallingTable, checked_panics, differs),

@@ -121,7 +121,7 @@ pub fn made(random: &mut Random) -> (&'static str, Vec<u8>) {
     }
 }
 
-/// A method with a `)` in some names: in front of a semicolon, with a letter behind it.
+/// Puts a `)` and one byte more in front of semicolons, so into class names. Where that byte is a semicolon, what follows can't be read.
 pub fn parenthesise(random: &mut Random, text: &mut Vec<u8>) {
     let mut at = 0;
     while let Some(name) = text[at..].iter().position(|&byte| byte == b';') {

@@ -1,6 +1,6 @@
 //! The listed differences between the rules, documents 01 and 02, and the Rust: when each holds of an input, and what stands in
 //! for it, so that the rest of the input is compared all the same.
-use crate::layout::{Member, Parts};
+use crate::layout::Parts;
 use crate::sides::{Build, Holding, Wrapped};
 use std::borrow::Cow;
 
@@ -146,41 +146,41 @@ fn end_of_parameters(descriptor: &[u8]) -> Option<usize> {
     Some(at)
 }
 
-/// Where a parameter's name has a `)`, the descriptor with another byte in the place of each: the first `)` ends the parameters.
-pub fn without_parentheses(descriptor: &[u8]) -> Option<Vec<u8>> {
-    let end = end_of_parameters(descriptor)?;
-    if !descriptor[..end].contains(&b')') {
-        return None;
-    }
-    let mut plain = descriptor.to_vec();
-    plain[..end].iter_mut().filter(|byte| **byte == b')').for_each(|byte| *byte = b'-');
-    Some(plain)
+/// Where the parameters of a descriptor end, if a name of them has a `)`.
+fn end_behind_a_parenthesis(descriptor: &[u8]) -> Option<usize> {
+    end_of_parameters(descriptor).filter(|&end| descriptor[..end].contains(&b')'))
 }
 
-/// Whether the first `)` of a descriptor is not the one that ends its parameters.
+/// The descriptor with another byte in the place of each `)` in its parameters' names: its first `)` ends them.
+fn with_plain_names(descriptor: &[u8]) -> Cow<'_, [u8]> {
+    let Some(end) = end_behind_a_parenthesis(descriptor) else { return Cow::Borrowed(descriptor) };
+    let mut plain = descriptor.to_vec();
+    plain[..end].iter_mut().filter(|byte| **byte == b')').for_each(|byte| *byte = b'-');
+    Cow::Owned(plain)
+}
+
+/// Whether a descriptor has a `)`, and the first is not the one that ends its parameters.
 pub fn first_parenthesis_misleads(descriptor: &[u8]) -> bool {
-    descriptor.contains(&b')') && end_of_parameters(descriptor).is_none_or(|end| descriptor[..end].contains(&b')'))
+    let unread = end_of_parameters(descriptor).is_none();
+    descriptor.contains(&b')') && (unread || end_behind_a_parenthesis(descriptor).is_some())
 }
 
 /// The slots of a descriptor's return by the rules: those that the Rust gives where the first `)` ends the parameters, and none
 /// where it can't read them.
 pub fn return_slots<B: Build>(descriptor: &[u8], holding: Holding) -> Option<usize> {
     B::parameters(&holding.hold(descriptor))?;
-    let plain = without_parentheses(descriptor);
-    B::return_slots(&holding.hold(plain.as_deref().unwrap_or(descriptor)))
+    B::return_slots(&holding.hold(&with_plain_names(descriptor)))
 }
 
-/// The parts with such descriptors in the place of their methods' own; `None` where no name has a `)`.
+/// The parts of a case with plain names in its methods' descriptors; `None` where they have none but these.
 pub fn plain_methods(parts: &Parts) -> Option<Parts> {
-    let named = |member: &Member| if member.is_method { without_parentheses(&member.descriptor) } else { None };
-    if !parts.members.iter().any(|member| named(member).is_some()) {
+    let mut methods = parts.members.iter().filter(|member| member.is_method);
+    if methods.all(|method| end_behind_a_parenthesis(&method.descriptor).is_none()) {
         return None;
     }
     let mut plain = parts.clone();
-    for member in &mut plain.members {
-        if let Some(descriptor) = named(member) {
-            member.descriptor = descriptor;
-        }
+    for method in plain.members.iter_mut().filter(|member| member.is_method) {
+        method.descriptor = with_plain_names(&method.descriptor).into_owned();
     }
     Some(plain)
 }

@@ -12,6 +12,13 @@ pub struct Member {
     pub descriptor: Vec<u8>,
 }
 
+impl Member {
+    pub fn method(index: u16, class: &[u8], name: &[u8], descriptor: &[u8]) -> Self {
+        let (class, name, descriptor) = (class.to_vec(), name.to_vec(), descriptor.to_vec());
+        Member { index, is_method: true, class, name, descriptor }
+    }
+}
+
 #[derive(Clone, Debug, Default, PartialEq)]
 pub struct Record {
     pub start: u16,

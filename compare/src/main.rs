@@ -44,10 +44,21 @@ const SHORT: &str = "\
 /// How many inputs go by between two progress lines.
 const STEP: u64 = 2_000;
 
-/// One made input in so many more has a `)` in its names.
+/// To so many made inputs there comes one with a `)` put into names.
 const PARENTHESISED: u64 = 10;
 
-/// The whole comparison: so many cases, so many made descriptors, and every short descriptor as the count allows.
+/// Compares so many inputs, with a progress line now and then.
+fn each(run: &mut Run, count: u64, mut one: impl FnMut(&mut Run)) {
+    for done in 0..count {
+        one(run);
+        if done % STEP == 0 {
+            run.book.progress(done, count);
+        }
+    }
+}
+
+/// The whole comparison: so many cases, so many made descriptors, a tenth of each with a `)` put into names, and every short
+/// descriptor as the count allows.
 fn compare(seed: u64, count: u64) -> Run {
     let mut run = Run::new(seed);
     rows::compare(&mut run);
@@ -65,51 +76,41 @@ fn cases(run: &mut Run, seed: u64, count: u64) {
     let mut random = Random::new(seed ^ 0x6361_7365);
     make::KINDS.iter().for_each(|(name, _, _)| run.book.announce(name));
     let mix: Vec<usize> = (0..make::KINDS.len()).flat_map(|kind| vec![kind; make::KINDS[kind].1]).collect();
-    for done in 0..count {
+    each(run, count, |run| {
         let (name, _, make) = make::KINDS[mix[random.below(mix.len())]];
         run.book.case(name);
         run.case(&make(&mut random));
-        if done % STEP == 0 {
-            run.book.progress(done, count);
-        }
-    }
+    });
 }
 
+/// Cases with a `)` put into names.
 fn parenthesised_cases(run: &mut Run, seed: u64, count: u64) {
     let mut random = Random::new(seed ^ 0x7061_7265);
-    for done in 0..count {
+    each(run, count, |run| {
         run.book.case("parenthesis in a name");
         run.case(&make::parenthesised(&mut random));
-        if done % STEP == 0 {
-            run.book.progress(done, count);
-        }
-    }
-}
-
-fn parenthesised_descriptors(run: &mut Run, seed: u64, count: u64) {
-    let mut random = Random::new(seed ^ 0x6e61_6d65);
-    for done in 0..count {
-        let mut text = descriptors::any_method(&mut random);
-        descriptors::parenthesise(&mut random, &mut text);
-        run.book.descriptor("name with parenthesis");
-        run.descriptor(&text);
-        if done % STEP == 0 {
-            run.book.progress(done, count);
-        }
-    }
+    });
 }
 
 fn made_descriptors(run: &mut Run, seed: u64, count: u64) {
     let mut random = Random::new(seed ^ 0x6465_7363);
     descriptors::KINDS.iter().for_each(|name| run.book.announce(name));
-    for done in 0..count {
+    each(run, count, |run| {
         let (name, text) = descriptors::made(&mut random);
         run.book.descriptor(name);
         run.descriptor(&text);
-        if done % STEP == 0 {
-            run.book.progress(done, count);
-        }
-    }
+    });
+}
+
+/// Methods with a `)` put into names.
+fn parenthesised_descriptors(run: &mut Run, seed: u64, count: u64) {
+    let mut random = Random::new(seed ^ 0x6e61_6d65);
+    each(run, count, |run| {
+        let mut text = descriptors::any_method(&mut random);
+        descriptors::parenthesise(&mut random, &mut text);
+        run.book.descriptor("name with parenthesis");
+        run.descriptor(&text);
+    });
 }
 
 /// Every text over the alphabet whose length has no more texts than the count.

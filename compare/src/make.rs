@@ -429,7 +429,7 @@ fn damaged_layout(random: &mut Random) -> Vec<u8> {
     bytes
 }
 
-/// A case whose methods have a `)` in names of their parameters, which takes none of their slots.
+/// A case in whose methods a `)` was put into names. Their parameters and returns have the same slots as before.
 pub fn parenthesised(random: &mut Random) -> Vec<u8> {
     let mut parts = if random.once_in(2) { parts(random) } else { behind_a_call(random) };
     for member in parts.members.iter_mut().filter(|member| member.is_method) {
@@ -440,21 +440,14 @@ pub fn parenthesised(random: &mut Random) -> Vec<u8> {
 
 /// Some loads, a static call with its arguments, and a dereference that reaches one of the loads by the slots that the call gives.
 fn behind_a_call(random: &mut Random) -> Parts {
-    let method = |index: u16, descriptor: Vec<u8>| Member {
-        index,
-        is_method: true,
-        class: b"a/B".to_vec(),
-        name: b"m".to_vec(),
-        descriptor,
-    };
-    let called = method(1, good_method(random));
+    let called = Member::method(1, b"a/B", b"m", &good_method(random));
     let (arguments, _) = Maker::slots(Some(&called));
     let dereferences: [&[u8]; 8] = [&[0xbe], &[0xbf], &[0xc2], &[0x2e], &[0x31], &[0x4f], &[0x50], &[0xb6, 0, 2]];
     let mut code: Vec<u8> = (0..random.between(1, 4) + arguments).map(|_| 0x2a + random.below(4) as u8).collect();
     code.extend([0xb8, 0, 1]);
     let fault = code.len() as u16;
     code.extend(random.pick(&dereferences));
-    let members = vec![called, method(2, good_method(random))];
+    let members = vec![called, Member::method(2, b"a/B", b"n", &good_method(random))];
     let records = records(random, code.len());
     Parts { flags: flags(random), fault, code, signature: signature(random), members, records }
 }

@@ -1,9 +1,9 @@
-//! Fixed rows: document 01's bench rows and the readings of it, each with what both sides must say; and the smallest inputs of
-//! the listed differences, with what each side says.
+//! Fixed rows: document 01's bench rows, rows of document 02 and readings of both, each with what both sides must say; and the smallest
+//! inputs of the listed differences, with what each side says.
 use crate::cases::Run;
 use crate::descriptors::STRICT_WRAPPED;
 use crate::differences::return_slots;
-use crate::layout::{lay_out, Member, Parts, Record};
+use crate::layout::{self, lay_out, Member, Parts, Record};
 use crate::rule::Facts;
 use crate::sample::line;
 use crate::sides::{quietly, Build, Checked, Held, Holding, Wrapped};
@@ -33,25 +33,13 @@ fn bare(code: &[u8], fault: u16, signature: &[u8]) -> Parts {
 
 /// The example of the program.
 fn example() -> Parts {
-    let length = Member {
-        index: 1,
-        is_method: true,
-        class: b"java/lang/String".to_vec(),
-        name: b"length".to_vec(),
-        descriptor: b"()I".to_vec(),
-    };
+    let length = Member::method(1, b"java/lang/String", b"length", b"()I");
     Parts { members: vec![length], ..bare(&[0x2a, 0xb6, 0, 1, 0x57, 0xb1], 1, b"m:(Ljava/lang/String;)V") }
 }
 
 /// The length of an array behind a static call with a descriptor, which local 1 was loaded for.
 fn measured(descriptor: &[u8]) -> Parts {
-    let called = Member {
-        index: 1,
-        is_method: true,
-        class: b"a".to_vec(),
-        name: b"m".to_vec(),
-        descriptor: descriptor.to_vec(),
-    };
+    let called = Member::method(1, b"a", b"m", descriptor);
     Parts { members: vec![called], ..bare(&[0x2a, 0x2b, 0xb8, 0, 1, 0xbe], 5, b"") }
 }
 
@@ -195,6 +183,15 @@ fn print_line(input: &str, library: String, checked: String, wrapped: String) {
 /// Prints what each side says of the smallest input of each listed difference.
 pub fn print_listed() {
     print_line("input", "library".to_string(), "checked".to_string(), "wrapped".to_string());
+    print_lengths();
+    print_slots("D3 local 1, static, :( and 32,768 J", [b":(", &b"J".repeat(32_768)[..]].concat());
+    print_slots("D3 local 1, static, :( and 32,767 J and IIII", [b":(", &b"J".repeat(32_767)[..], b"IIII"].concat());
+    print_leader();
+    print_returns();
+}
+
+/// Tables whose bounds the Rust does not keep within 32 bits.
+fn print_lengths() {
     let codes = [
         ("D1 length at 0: low 1, high 0", table(1, 0, &[])),
         ("D2 length at 0: low -1, high 2^31 - 1, then 2a be", table(u32::MAX, 0x7fff_ffff, &[0x2a, 0xbe])),
@@ -206,56 +203,60 @@ pub fn print_listed() {
     ];
     for (input, code) in codes {
         let library = format!("{:?}", korsepal::instruction_length(&code, 0));
-        print_line(
-            input,
-            library,
-            words(quietly(|| Checked::length(&code, 0))),
-            words(quietly(|| Wrapped::length(&code, 0))),
-        );
-    }
-    print_slots("D3 local 1, static, :( and 32,768 J", [b":(", &b"J".repeat(32_768)[..]].concat());
-    print_slots("D3 local 1, static, :( and 32,767 J and IIII", [b":(", &b"J".repeat(32_767)[..], b"IIII"].concat());
-    let code = [0xa7, 0xff, 0xff, 0xb1];
-    let library = format!("{:?}", korsepal::block_leader(&code, u64::MAX).leader);
-    let checked = words(quietly(|| Checked::leader(&code, usize::MAX)));
-    print_line(
-        "D5 leader: a7 ff ff b1, fault 2^64 - 1",
-        library,
-        checked,
-        words(quietly(|| Wrapped::leader(&code, usize::MAX))),
-    );
-    for text in ["(La)J;)V", "(La)J;", "(V)I", ")V"] {
-        let library = format!("{:?}", korsepal::return_slots(text.as_bytes()));
-        let checked = words(quietly(|| Checked::return_slots(text)));
-        let wrapped = words(quietly(|| Wrapped::return_slots(text)));
-        print_line(&format!("D6 return slots: {text}"), library, checked, wrapped);
-    }
-    for descriptor in ["(La)V;)J", "(La)J;)V", "(La)V;"] {
-        print_measured(descriptor);
+        let (checked, wrapped) = (quietly(|| Checked::length(&code, 0)), quietly(|| Wrapped::length(&code, 0)));
+        print_line(input, library, words(checked), words(wrapped));
     }
 }
 
-/// The line of a length behind a call.
-fn print_measured(descriptor: &str) {
-    let parts = measured(descriptor.as_bytes());
-    let library = line(korsepal::report(&lay_out(&parts), &mut [0; 16], &mut [0; 128]));
-    let held = Held::new(&parts, &parts.signature);
-    let (checked, wrapped) = (Checked::over(&parts, &held), Wrapped::over(&parts, &held));
-    println!("D6 message: 2a 2b b8 00 01 be, fault 5, method 1 {descriptor}");
-    println!("    library  {}", String::from_utf8_lossy(&library));
-    println!("    checked  {}", words(quietly(|| checked.message(5))));
-    println!("    wrapped  {}", words(quietly(|| wrapped.message(5))));
+/// The two builds over the parts of a case.
+fn builds(parts: &Parts) -> (Checked, Wrapped) {
+    let held = Held::new(parts, &parts.signature);
+    (Checked::over(parts, &held), Wrapped::over(parts, &held))
 }
 
 /// The name of local 1 by a long signature.
 fn print_slots(input: &str, signature: Vec<u8>) {
     let parts = bare(&[0x2b, 0xbe], 1, &signature);
-    let held = Held::new(&parts, &signature);
-    let (checked, wrapped) = (Checked::over(&parts, &held), Wrapped::over(&parts, &held));
+    let (checked, wrapped) = builds(&parts);
     let mut output = [0; 64];
     let library = match korsepal::local_name(&lay_out(&parts), 1, 0, &mut output) {
         korsepal::Name::Named(name) => String::from_utf8_lossy(name).into_owned(),
         other => format!("{other:?}"),
     };
     print_line(input, library, words(quietly(|| checked.name(1, 0))), words(quietly(|| wrapped.name(1, 0))));
+}
+
+/// A target below 0 with the greatest fault.
+fn print_leader() {
+    let code = [0xa7, 0xff, 0xff, 0xb1];
+    let library = format!("{:?}", korsepal::block_leader(&code, u64::MAX).leader);
+    let (checked, wrapped) =
+        (quietly(|| Checked::leader(&code, usize::MAX)), quietly(|| Wrapped::leader(&code, usize::MAX)));
+    print_line("D5 leader: a7 ff ff b1, fault 2^64 - 1", library, words(checked), words(wrapped));
+}
+
+/// Returns behind a parenthesis that does not end the parameters, and messages that go by them.
+fn print_returns() {
+    for text in ["(La)J;)V", "(L);)V", "(L);", "(V)I", ")V"] {
+        let library = format!("{:?}", korsepal::return_slots(text.as_bytes()));
+        let (checked, wrapped) = (quietly(|| Checked::return_slots(text)), quietly(|| Wrapped::return_slots(text)));
+        print_line(&format!("D6 return slots: {text}"), library, words(checked), words(wrapped));
+    }
+    for descriptor in ["(La)V;)J", "(La)J;)V", "(La)V;"] {
+        let input = format!("2a 2b b8 00 01 be, fault 5, with the method {descriptor} at 1");
+        print_message(&input, &measured(descriptor.as_bytes()));
+    }
+    let figure_eight = layout::read(include_bytes!("../../examples/figure_eight.case")).expect("it keeps the layout");
+    print_message("examples/figure_eight", &figure_eight);
+}
+
+/// The message of a case, a line to a side.
+fn print_message(input: &str, parts: &Parts) {
+    let library = line(korsepal::report(&lay_out(parts), &mut [0; 16], &mut [0; 128]));
+    let (checked, wrapped) = builds(parts);
+    let fault = usize::from(parts.fault);
+    println!("D6 message: {input}");
+    println!("    library  {}", String::from_utf8_lossy(&library));
+    println!("    checked  {}", words(quietly(|| checked.message(fault))));
+    println!("    wrapped  {}", words(quietly(|| wrapped.message(fault))));
 }

@@ -1,4 +1,4 @@
-//! What the Rust says of a case, and what follows from it by document 01: counts, answers and room.
+//! What the Rust says of a case, and what follows from it by documents 01 and 02: counts, answers and room.
 //!
 //! The walk from a leader lands at an index exactly when `simulate_block` reaches it. So its landings, their number and their
 //! heights are the Rust's own.
@@ -154,8 +154,8 @@ impl Facts {
         let walker = plain.as_ref().unwrap_or(&wrapped);
         let stands_in = scan.wide || plain.is_some();
         let message = if stands_in { composed(&wrapped, walker, code, leader, fault) } else { wrapped.message(fault) };
-        let differs = stands_in || cut.is_some();
-        let own_message = if differs { Wrapped::over(parts, &whole).message(fault) } else { message.clone() };
+        let may_differ = stands_in || cut.is_some();
+        let own_message = if may_differ { Wrapped::over(parts, &whole).message(fault) } else { message.clone() };
         let holding = whole.holding;
         let walked = leader.map(|leader| {
             let kept = landings.take().filter(|kept| kept.leader == leader);

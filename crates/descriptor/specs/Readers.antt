@@ -46,12 +46,13 @@ parameterAt text instance slot = startingAt (typesOf text) (pick instance 1 0) s
 
 -- ---- the return
 
--- where the parameters end, if all of them were read
+-- the index where parameters end that were read
 abbrev pub endOf : Params → Found
 endOf (Read slots end) = At end
 endOf UnreadableParams = Absent
 
--- "Read the parameters and take what follows the parenthesis that ends them." A list without one ends with the text.
+-- "Read the parameters and take what follows the parenthesis that ends them." Without one they end with the text, where nothing
+-- follows.
 unfoldable pub closing : List ℕ → Found
 closing text = endOf (parameters text)
 

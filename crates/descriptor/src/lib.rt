@@ -75,7 +75,7 @@ pub fn parameter_at(descriptor: &[u8], instance: bool, slot: usize) -> Found
     Found::Absent
 }
 
-// The slots of what a method returns whose parameters end at an index.
+// The slots of what a method returns whose parameters end at an index. That may be any number, so it is tested before one is added.
 pub fn slots_behind(descriptor: &[u8], end: usize) -> Slots
     ensures { λ r. ⌜ r ≡ slotsBehind (now (descriptor .entry)) (At end) ⌝ }
 {

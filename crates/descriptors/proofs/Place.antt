@@ -7,15 +7,16 @@ use mathlib.Core.Logic.{⊎-elim}
 use mathlib.Core.Path.{_≡_, refl, _∙_, sym, ap, subst}
 use mathlib.Core.Bool.{Bool, true, false}
 use mathlib.Core.List.{List, [], _∷_}
-use lib.Dec.{eqb, lit≤}
+use lib.Dec.{eqb, leb, lit≤}
 use lib.ListN.{length, take, drop}
-use borrow.Author.Tests.{eqb-true, le-leb, lt-leb}
+use borrow.Author.Tests.{eqb-true, leb-true, leb-false, le-leb, lt-leb}
 use Rattle.basics.specs.Bytes.{byteAt}
 use Rattle.basics.specs.Choice.{pick}
-use Rattle.descriptor.specs.Readers.{slotsOf, judged, parameters, endOf, closing, slotsBehind, returnSlots}
+use Rattle.descriptor.specs.Readers.{slotsOf, judged, parameters, closing, slotsBehind, returnSlots}
 use Rattle.descriptor.specs.declared.Params.{Params}
 use Rattle.descriptor.specs.declared.Params.the-variants.{Read, Unreadable as UnreadableParams}
-use Rattle.descriptor.specs.declared.Slots.the-variants.{Slots as SlotsOf, Unreadable}
+use Rattle.descriptor.specs.declared.Slots.the-variants.{Slots as SlotsOf, Unreadable as NoSlots}
+use Rattle.descriptor.proofs.Return.{behind-end, behind-none}
 use Rattle.fieldtype.specs.Search.{firstIn, firstFrom}
 use Rattle.fieldtype.specs.Types.{fieldTypeAt, takenInside, typesStep, listOver, typesFrom, typesAt, typesOf}
 use Rattle.fieldtype.specs.declared.Found.the-variants.{At, Absent}
@@ -72,14 +73,6 @@ module _ (text : List ℕ) where
       by-test true o q = from-ended (length text) 1 _ slots end (not-empty text (eqb-true (byteAt text 0) 40 o)) (omega arith) q
       by-test false o q = let z : _≡_ {A = ℕ} 0 1 = cc in absurd (omega arith)
 
-  ended : (end : ℕ) → closing text ≡ At end → Ended text end
-  unfolding closing
-  ended end e = by-list (parameters text) refl e
-    where
-      by-list : (p : Params) → parameters text ≡ p → endOf p ≡ At end → Ended text end
-      by-list (Read slots stop) list q = let same : stop ≡ end = cc in subst (Ended text) same (list-ended slots stop list)
-      by-list UnreadableParams list q = let z : _≡_ {A = ℕ} 0 1 = cc in absurd (omega arith)
-
 -- ---- the first parenthesis
 
 -- where none stands before a place, the search may begin there
@@ -102,32 +95,70 @@ first-is : (text : List ℕ) (end : ℕ) → occurs 41 (take end text) ≡ 0 →
 unfolding firstPlace firstFrom
 first-is text end none = none-before text end 0 none ∙ ap (firstIn 41 (drop end text)) (omega arith)
 
+-- none stands before the first
+first-alone : (text : List ℕ) (end from : ℕ) → firstIn 41 text from ≡ At (from + end) → occurs 41 (take end text) ≡ 0
+unfolding firstIn
+first-alone [] zero from e = refl
+first-alone [] (suc end) from e = refl
+first-alone (x ∷ xs) zero from e = refl
+first-alone (x ∷ xs) (suc end) from e = by-test (eqb x 41) e (first-alone xs end (from + 1))
+  where
+    by-test :
+        (b : Bool) → pick b (At from) (firstIn 41 xs (from + 1)) ≡ At (from + suc end) →
+        (firstIn 41 xs (from + 1) ≡ At (from + 1 + end) → occurs 41 (take end xs) ≡ 0) →
+        pick b 1 0 + occurs 41 (take end xs) ≡ 0
+    by-test true q further = let same : from ≡ from + suc end = cc in absurd (omega arith)
+    by-test false q further = omega (arith, further (q ∙ ap At (omega arith)))
+
+first-without-one : (text : List ℕ) (end : ℕ) → firstPlace text ≡ At end → occurs 41 (take end text) ≡ 0
+unfolding firstPlace firstFrom
+first-without-one text end e = first-alone text end 0 (e ∙ ap At (omega arith))
+
 -- ---- what that says of the return
 
-module _ (text : List ℕ) where
-  behind-all : (end : ℕ) → closing text ≡ At end → length text ≤ end → returnSlots text ≡ Unreadable
-  unfolding returnSlots slotsBehind
-  behind-all end e past = rw (e, le-leb (length text) (end + 1) (omega arith))
-
-  unread : closing text ≡ Absent → returnSlots text ≡ Unreadable
-  unfolding returnSlots slotsBehind
-  unread e = rw e
-
-  same-place : (end : ℕ) → closing text ≡ At end → firstPlace text ≡ At end → returnSlots text ≡ firstReturn text
-  unfolding returnSlots
-  same-place end e first = ap (slotsBehind text) (e ∙ sym first)
-
-  without-one : (end : ℕ) → closing text ≡ At end → occurs 41 (take end text) ≡ 0 → returnSlots text ≡ firstReturn text
+module _ (text : List ℕ) (slots end : ℕ) (read : parameters text ≡ Read slots end) where
+  nothing-behind : length text ≤ end + 1 → returnSlots text ≡ NoSlots
   unfolding slotsBehind
-  without-one end e none =
+  nothing-behind past = behind-end text slots end read ∙ rw (le-leb (length text) (end + 1) past)
+
+  same-place : firstPlace text ≡ At end → returnSlots text ≡ firstReturn text
+  same-place first = behind-end text slots end read ∙ ap (slotsBehind text) (sym first)
+
+  without-one : occurs 41 (take end text) ≡ 0 → returnSlots text ≡ firstReturn text
+  unfolding slotsBehind
+  without-one none =
       let first : firstPlace text ≡ firstFrom 41 text end = first-is text end none in
+      let stop = list-ended text slots end read in
       ⊎-elim
       (λ (all : end ≡ length text).
-      behind-all end e (omega arith)
-      ∙ sym (ap (slotsBehind text) (first ∙ sym (found-nowhere text end 41 (omega arith)))))
-      (λ (below : end < length text).
-      same-place end e (first ∙ sym (found-here text end 41 below (ended text end e .1 below))))
-      (eq-or-lt-of-le (ended text end e .0))
+      nothing-behind (omega arith) ∙ sym (ap (slotsBehind text) (first ∙ sym (found-nowhere text end 41 (omega arith)))))
+      (λ (below : end < length text). same-place (first ∙ sym (found-here text end 41 below (stop .1 below))))
+      (eq-or-lt-of-le (stop .0))
+
+only-behind :
+    (text : List ℕ) (n : ℕ) → returnSlots text ≡ SlotsOf n →
+    (slots : ℕ) × (end : ℕ) × (parameters text ≡ Read slots end) × (byteAt text end ≡ 41) × (end + 1 < length text)
+unfolding slotsBehind
+only-behind text n e = by-list (parameters text) refl
+  where
+    Behind : Type 0
+    Behind = (slots : ℕ) × (end : ℕ) × (parameters text ≡ Read slots end) × (byteAt text end ≡ 41) × (end + 1 < length text)
+
+    by-test : (slots end : ℕ) → parameters text ≡ Read slots end → (b : Bool) → leb (length text) (end + 1) ≡ b → Behind
+    by-test slots end read true past =
+        let none : NoSlots ≡ SlotsOf n = sym (nothing-behind text slots end read (leb-true (length text) (end + 1) past)) ∙ e in
+        let z : _≡_ {A = ℕ} 0 1 = cc in
+        absurd (omega arith)
+    by-test slots end read false below =
+        let inside : end + 1 < length text = leb-false (length text) (end + 1) below in
+        (slots, end, read, list-ended text slots end read .1 (omega arith), inside)
+
+    by-list : (p : Params) → parameters text ≡ p → Behind
+    by-list (Read slots end) read = by-test slots end read (leb (length text) (end + 1)) refl
+    by-list UnreadableParams read =
+        let none : NoSlots ≡ SlotsOf n = sym (behind-none text read) ∙ e in
+        let z : _≡_ {A = ℕ} 0 1 = cc in
+        absurd (omega arith)
 
 -- ---- the end of the list, the first parenthesis and the last
 
@@ -168,10 +199,12 @@ return-place =
       theEnd = the-end;
       notTheFirst = not-the-first;
       notTheLast = not-the-last;
-      endsAtOne = λ text end e. ended text end e .1;
-      endsInside = λ text end e. ended text end e .0;
-      noneBehindAll = behind-all;
-      noneUnread = unread;
+      endsAtOne = λ text slots end read. list-ended text slots end read .1;
+      endsInside = λ text slots end read. list-ended text slots end read .0;
+      noneUnread = behind-none;
+      noneBehind = nothing-behind;
+      onlyBehind = only-behind;
       sameAtFirst = same-place;
       sameWithoutOne = without-one;
+      firstWithoutOne = first-without-one;
     }

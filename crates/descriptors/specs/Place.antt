@@ -8,9 +8,10 @@ use lib.Dec.{eqb}
 use lib.ListN.{length, take}
 use Rattle.basics.specs.Bytes.{byteAt}
 use Rattle.basics.specs.Choice.{pick}
-use Rattle.descriptor.specs.Readers.{closing, slotsBehind, returnSlots}
+use Rattle.descriptor.specs.Readers.{parameters, closing, slotsBehind, returnSlots}
+use Rattle.descriptor.specs.declared.Params.the-variants.{Read, Unreadable as UnreadableParams}
 use Rattle.descriptor.specs.declared.Slots.{Slots}
-use Rattle.descriptor.specs.declared.Slots.the-variants.{Slots as SlotsOf, Unreadable}
+use Rattle.descriptor.specs.declared.Slots.the-variants.{Slots as SlotsOf, Unreadable as NoSlots}
 use Rattle.fieldtype.specs.Search.{firstFrom}
 use Rattle.fieldtype.specs.declared.Found.{Found}
 use Rattle.fieldtype.specs.declared.Found.the-variants.{At, Absent}
@@ -52,19 +53,26 @@ occurs byte (x ∷ xs) = pick (eqb x byte) 1 0 + occurs byte xs
 -- ---- the statements
 
 pub record ReturnPlace : Type 0 where
-  -- the return stands behind the end of the parameters, and neither behind the first `)` nor behind the last
+  -- the return stands behind the end of the parameters (this is `sameReturn`, by the place), and neither behind the first `)` nor
+  -- behind the last
   pub theEnd : Returns closing
   pub notTheFirst : Returns firstPlace → ⊥
   pub notTheLast : Returns lastPlace → ⊥
   -- parameters that were read end at a parenthesis or with the text
-  pub endsAtOne : (text : List ℕ) (end : ℕ) → closing text ≡ At end → end < length text → byteAt text end ≡ 41
-  pub endsInside : (text : List ℕ) (end : ℕ) → closing text ≡ At end → end ≤ length text
-  -- those that end with the text have no return behind them, and so it is where they can't be read
-  pub noneBehindAll : (text : List ℕ) (end : ℕ) → closing text ≡ At end → length text ≤ end → returnSlots text ≡ Unreadable
-  pub noneUnread : (text : List ℕ) → closing text ≡ Absent → returnSlots text ≡ Unreadable
-  -- where they end at the first `)` the return is document 01's
+  pub endsAtOne : (text : List ℕ) (slots end : ℕ) → parameters text ≡ Read slots end → end < length text → byteAt text end ≡ 41
+  pub endsInside : (text : List ℕ) (slots end : ℕ) → parameters text ≡ Read slots end → end ≤ length text
+  -- there is a return exactly where a byte follows a parenthesis that ends them
+  pub noneUnread : (text : List ℕ) → parameters text ≡ UnreadableParams → returnSlots text ≡ NoSlots
+  pub noneBehind :
+      (text : List ℕ) (slots end : ℕ) → parameters text ≡ Read slots end → length text ≤ end + 1 → returnSlots text ≡ NoSlots
+  pub onlyBehind :
+      (text : List ℕ) (n : ℕ) → returnSlots text ≡ SlotsOf n →
+      (slots : ℕ) × (end : ℕ) × (parameters text ≡ Read slots end) × (byteAt text end ≡ 41) × (end + 1 < length text)
+  -- where they end at the first `)` the return is document 01's; so it is of any that were read without a `)` in a name, and then alone
+  -- they end at the first
   pub sameAtFirst :
-      (text : List ℕ) (end : ℕ) → closing text ≡ At end → firstPlace text ≡ At end → returnSlots text ≡ firstReturn text
-  -- and so it is of any parameters that were read, where no name of them has a `)`
+      (text : List ℕ) (slots end : ℕ) → parameters text ≡ Read slots end → firstPlace text ≡ At end → returnSlots text ≡ firstReturn text
   pub sameWithoutOne :
-      (text : List ℕ) (end : ℕ) → closing text ≡ At end → occurs 41 (take end text) ≡ 0 → returnSlots text ≡ firstReturn text
+      (text : List ℕ) (slots end : ℕ) → parameters text ≡ Read slots end → occurs 41 (take end text) ≡ 0 →
+      returnSlots text ≡ firstReturn text
+  pub firstWithoutOne : (text : List ℕ) (end : ℕ) → firstPlace text ≡ At end → occurs 41 (take end text) ≡ 0

@@ -37,7 +37,7 @@ use Rattle.truth.specs.Condition.{Described}
 use Rattle.truth.specs.Example.{worked, pool, PremisesMet, NamedRightly}
 use Rattle.truth.proofs.Cause.{cause-true}
 
-leads : blockLeader lengthOf [] (worked .code) 12 ≡ Leader 0 10
+leads : blockLeader lengthOf [] (worked .code) 14 ≡ Leader 0 12
 unfolding blockLeader instructions scanFrom scanCount leadersOf leadersAt branchOf answered greatest upTo lengthOf within bytesOf formatOf
 leads = refl
 
@@ -54,7 +54,7 @@ method-known : lookupIn (worked .members) 2 1 2 ≡ known methodText
 unfolding lookupIn memberFound memberAt numberAt numberFrom runBy textAt textPart afterText descriptorOf
 method-known = refl
 
-walks : blockWalk (worked .code) (worked .members) 2 0 12 4 ≡ fits (done (1 ∷ 0 ∷ 0 ∷ []) 8)
+walks : blockWalk (worked .code) (worked .members) 2 0 14 4 ≡ fits (done (1 ∷ 3330 ∷ []) 10)
 unfolding blockWalk completed completedFrom walk walkFrom step rowOf fixedLength formatOf u16At lookupIn memberFound memberAt numberAt numberFrom runBy textAt textPart afterText descriptorOf slotsOf judged parameters closing slotsBehind returnSlots fieldSlots firstIn firstFrom brackets typeBehind fieldTypeAt typeSlots typesFrom typesAt typesOf
 walks = refl
 
@@ -63,13 +63,13 @@ walks = refl
 -- among the indexes up to the fault, the opcodes of a range cite one member only
 only-cited :
     (low high index : ℕ) →
-    T (every (λ k. whereAsked (between low high (byteAt (worked .code) k)) (eqb (u16At (worked .code) (k + 1)) index)) 13) →
-    (pc : ℕ) → pc ≤ 12 → T (between low high (byteAt (worked .code) pc)) → u16At (worked .code) (pc + 1) ≡ index
+    T (every (λ k. whereAsked (between low high (byteAt (worked .code) k)) (eqb (u16At (worked .code) (k + 1)) index)) 15) →
+    (pc : ℕ) → pc ≤ 14 → T (between low high (byteAt (worked .code) pc)) → u16At (worked .code) (pc + 1) ≡ index
 only-cited low high index t pc below here =
     let cites : ℕ → Bool = λ k. eqb (u16At (worked .code) (k + 1)) index in
     let test : ℕ → Bool = λ k. whereAsked (between low high (byteAt (worked .code) k)) (cites k) in
     eqb→eq (u16At (worked .code) (pc + 1)) index
-    (asked (between low high (byteAt (worked .code) pc)) (cites pc) here (every-at test 13 t pc (omega arith)))
+    (asked (between low high (byteAt (worked .code) pc)) (cites pc) here (every-at test 15 t pc (omega arith)))
 
 abbrev FieldTold : ℕ → Type 0
 FieldTold index =
@@ -93,7 +93,7 @@ method-told d e =
     let named : ClassName (97 ∷ 41 ∷ 86 ∷ []) = (λ x. omega (arith, x), (λ x. omega (arith, x), (λ x. omega (arith, x), tt))) in
     (cc, record { parameters = (record { named = named; shallow = lit≤ tt }, tt); result = record { named = tt; shallow = lit≤ tt } })
 
-described : (pc : ℕ) → pc ≤ 12 → Described (lookupIn (worked .members) 2) pool (worked .code) pc
+described : (pc : ℕ) → pc ≤ 14 → Described (lookupIn (worked .members) 2) pool (worked .code) pc
 unfolding u16At
 described pc below =
     record {
@@ -107,7 +107,7 @@ pub premises-met : PremisesMet
 premises-met =
     record {
       bytes = all-below 256 (worked .code) tt tt;
-      scan = 10;
+      scan = 12;
       measured = leads;
       inside = lit< tt;
       room = 4;
@@ -116,9 +116,9 @@ premises-met =
       described = λ pc here below. described pc below;
     }
 
-deep : depthOf (lookupIn (worked .members) 2) (worked .code) 12 ≡ at 2
-unfolding depthOf ruleOf u16At lookupIn memberFound memberAt numberAt numberFrom runBy textAt textPart afterText descriptorOf fieldSlots
+deep : depthOf (lookupIn (worked .members) 2) (worked .code) 14 ≡ at 1
+unfolding depthOf ruleOf u16At lookupIn memberFound memberAt numberAt numberFrom runBy textAt textPart afterText descriptorOf slotsOf judged parameters firstIn firstFrom brackets typeBehind fieldTypeAt typeSlots typesFrom typesAt typesOf
 deep = refl
 
 pub named-rightly : NamedRightly
-named-rightly = cause-true worked pool premises-met 2 0 0 deep (lit< tt) (lit< tt) refl
+named-rightly = cause-true worked pool premises-met 1 0 0 deep (lit< tt) (lit< tt) refl

@@ -1,6 +1,6 @@
 -- Condition 3 at work on one block, so that its premises are seen to be met: aload_0, dup, getfield J, pop2, aload_1, astore_0,
--- aload_1, invokestatic (La)V;)J, and the fault, putfield J. The cause is local 0 as loaded at 0, though a store to local 0
--- lies between; the call gives the two slots above it, though a `)` and a V stand in the name of its parameter's class.
+-- aload_1, invokestatic (La)V;)J, pop2, aload_1, and the fault, invokevirtual (La)V;)J. The cause is local 0 as loaded at 0, though
+-- a store to local 0 lies between, and though a `)` and a V stand in the name of a parameter's class.
 -- Assumes nothing.
 use Prim.Native.Nat.{ℕ}
 use mathlib.Core.Path.{_≡_}
@@ -13,18 +13,18 @@ use Rattle.truth.specs.Translation.{since, HeldWhen}
 abbrev pub worked : Findings
 worked =
     record {
-      code = 0x2a ∷ 0x59 ∷ 0xb4 ∷ 0 ∷ 1 ∷ 0x58 ∷ 0x2b ∷ 0x4b ∷ 0x2b ∷ 0xb8 ∷ 0 ∷ 2 ∷ 0xb5 ∷ 0 ∷ 1 ∷ 0xb1 ∷ [];
+      code = 0x2a ∷ 0x59 ∷ 0xb4 ∷ 0 ∷ 1 ∷ 0x58 ∷ 0x2b ∷ 0x4b ∷ 0x2b ∷ 0xb8 ∷ 0 ∷ 2 ∷ 0x58 ∷ 0x2b ∷ 0xb6 ∷ 0 ∷ 2 ∷ 0xb1 ∷ [];
       -- 1: field A.f J; 2: method A.m (La)V;)J
       members =
           1 ∷ 0 ∷ 1 ∷ 65 ∷ 1 ∷ 102 ∷ 1 ∷ 74
           ∷ 2 ∷ 1 ∷ 1 ∷ 65 ∷ 1 ∷ 109 ∷ 8 ∷ 40 ∷ 76 ∷ 97 ∷ 41 ∷ 86 ∷ 59 ∷ 41 ∷ 74 ∷ [];
       memberCount = 2;
-      fault = 12;
+      fault = 14;
       leader = 0;
-      height = 3;
-      count = 8;
-      -- the load of local 0 at 0, and the opaque halves of a long
-      stack = 1 ∷ 0 ∷ 0 ∷ 0 ∷ [];
+      height = 2;
+      count = 10;
+      -- the load of local 0 at 0, and that of local 1 at 13
+      stack = 1 ∷ 3330 ∷ 0 ∷ 0 ∷ [];
     }
 
 abbrev pub pool : Pool
@@ -41,5 +41,5 @@ PremisesMet = Premises worked pool
 abbrev pub NamedRightly : Type 1
 NamedRightly =
     (Val : Type 0) (opaque : ℕ → ℕ → Val) (entering : List Val) (locals : ℕ → Val) →
-    (v : Val) × (target pool (worked .code) (since pool (worked .code) opaque 0 entering locals 8) ≡ v ∷ [])
-    × HeldWhen (since pool (worked .code) opaque 0 entering locals) 8 0 0 v
+    (v : Val) × (target pool (worked .code) (since pool (worked .code) opaque 0 entering locals 10) ≡ v ∷ [])
+    × HeldWhen (since pool (worked .code) opaque 0 entering locals) 10 0 0 v

@@ -1,4 +1,5 @@
 pub mod Alike
 pub mod Asks
+pub mod Calls
 pub mod Ends
 pub mod Extends

@@ -1,3 +1,4 @@
+pub mod Calls
 pub mod Comes
 pub mod Marks
 pub mod Models
