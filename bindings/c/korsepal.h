@@ -93,7 +93,7 @@ korsepal_parameters_result korsepal_parameters(const uint8_t *descriptor, size_t
                                                size_t output_count);
 
 /* The slots of what a method returns, and of a field: status 0 and the slots, or 1 where they can't be read. The return follows the
- * parenthesis that ends the parameters; parameters that can't be read, or that none ends, have no return. */
+ * parenthesis that ends the parameters; it can't be read where they can't, where none ends them, and where nothing follows. */
 typedef struct {
     uint32_t status;
     uint32_t slots;

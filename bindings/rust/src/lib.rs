@@ -176,8 +176,8 @@ pub fn parameters<'a>(descriptor: &[u8], output: &'a mut [u8]) -> Parameters<'a>
     }
 }
 
-/// The slots of what a method returns, behind the parenthesis that ends its parameters; or `None` where these can't be read, or none
-/// ends them.
+/// The slots of what a method returns, behind the parenthesis that ends its parameters; or `None` where these can't be read, none ends
+/// them, or nothing follows.
 pub fn return_slots(descriptor: &[u8]) -> Option<u32> {
     // SAFETY: as in `report`.
     let r = unsafe { ffi::korsepal_return_slots(descriptor.as_ptr(), descriptor.len()) };

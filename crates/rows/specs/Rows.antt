@@ -97,8 +97,8 @@ rows =
     takes (ascii "(IJ[D)V") (Read 4 5) ∷
     names (ascii "(IJ[D)V") (ascii "int, long, double[]") ∷
     returns (ascii "(IJ[D)V") (SlotsOf 0) ∷
-    -- document 02, request 2: "`(La)J;)V` then returns 0 slots." `(I)La)V;` has a parenthesis in its return, too. A list that can't be
-    -- read, and one without an end, have no return.
+    -- document 02, request 2: "`(La)J;)V` then returns 0 slots." In `(I)La)V;` the name of the return has a parenthesis. Parameters that
+    -- can't be read, and those without an end, have no return.
     returns (ascii "(La)J;)V") (SlotsOf 0) ∷
     returns (ascii "(I)La)V;") (SlotsOf 1) ∷
     returns (ascii "(La)J;") NoSlots ∷
