@@ -56,11 +56,14 @@ endOf UnreadableParams = Absent
 unfoldable pub closing : List ℕ → Found
 closing text = endOf (parameters text)
 
--- "V 0, J or D 2, any other byte 1; no byte, or no `)`, fails"
+-- "V 0, J or D 2, any other byte 1"
+abbrev pub byteSlots : ℕ → ℕ
+byteSlots x = pick (eqb x 86) 0 (pick (isWide x) 2 1)
+
+-- "no byte, or no `)`, fails"
 unfoldable pub slotsBehind : List ℕ → Found → Slots
 slotsBehind text (At close) =
-    pick (leb (length text) (close + 1)) UnreadableSlots
-    (SlotsOf (pick (eqb (byteAt text (close + 1)) 86) 0 (pick (isWide (byteAt text (close + 1))) 2 1)))
+    pick (leb (length text) (close + 1)) UnreadableSlots (SlotsOf (byteSlots (byteAt text (close + 1))))
 slotsBehind text Absent = UnreadableSlots
 
 unfoldable pub returnSlots : List ℕ → Slots

@@ -15,7 +15,7 @@ use Rattle.basics.specs.Bytes.{byteAt}
 use Rattle.basics.specs.Choice.{pick, both}
 use Rattle.fieldtype.specs.Search.{firstIn, firstFrom}
 use Rattle.fieldtype.specs.Types.{brackets, baseType, typeBehind, fieldTypeAt, isWide, typeSlots, Types, over, one, typesAt, typesOf}
-use Rattle.descriptor.specs.Readers.{slotsOf, judged, parameters, slotsBehind, returnSlots, fieldSlots}
+use Rattle.descriptor.specs.Readers.{slotsOf, judged, parameters, byteSlots, slotsBehind, returnSlots, fieldSlots}
 use Rattle.fieldtype.specs.declared.FieldType.{FieldType}
 use Rattle.fieldtype.specs.declared.Found.the-variants.{At}
 use Rattle.descriptor.specs.declared.Params.the-variants.{Read}
@@ -303,9 +303,6 @@ module _ {text : List ℕ} where
 -- ---- the return, and a field
 
 -- the byte behind the parenthesis tells the slots
-abbrev byteSlots : ℕ → ℕ
-byteSlots x = pick (eqb x 86) 0 (pick (isWide x) 2 1)
-
 return-first : (r : ReturnType) → (x : ℕ) × (l : List ℕ) × (renderReturn r ≡ x ∷ l) × (byteSlots x ≡ treeReturnSlots r)
 unfolding renderReturn render
 return-first void = (86, [], refl, refl)

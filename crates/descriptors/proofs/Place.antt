@@ -7,19 +7,18 @@ use mathlib.Core.Logic.{⊎-elim}
 use mathlib.Core.Path.{_≡_, refl, _∙_, sym, ap, subst}
 use mathlib.Core.Bool.{Bool, true, false}
 use mathlib.Core.List.{List, [], _∷_}
-use lib.Dec.{eqb, leb, lit≤}
+use lib.Dec.{eqb, lit≤}
 use lib.ListN.{length, take, drop}
-use borrow.Author.Tests.{eqb-true, leb-true, leb-false, le-leb, lt-leb}
+use borrow.Author.Tests.{eqb-true, le-leb, lt-leb}
 use Rattle.basics.specs.Bytes.{byteAt}
 use Rattle.basics.specs.Choice.{pick}
-use Rattle.descriptor.specs.Readers.{slotsOf, judged, parameters, closing, slotsBehind, returnSlots}
-use Rattle.descriptor.specs.declared.Params.{Params}
+use Rattle.descriptor.specs.Readers.{slotsOf, judged, parameters, closing, byteSlots, slotsBehind, returnSlots}
 use Rattle.descriptor.specs.declared.Params.the-variants.{Read, Unreadable as UnreadableParams}
 use Rattle.descriptor.specs.declared.Slots.the-variants.{Slots as SlotsOf, Unreadable as NoSlots}
 use Rattle.descriptor.proofs.Return.{behind-end, behind-none}
 use Rattle.fieldtype.specs.Search.{firstIn, firstFrom}
 use Rattle.fieldtype.specs.Types.{fieldTypeAt, takenInside, typesStep, listOver, typesFrom, typesAt, typesOf}
-use Rattle.fieldtype.specs.declared.Found.the-variants.{At, Absent}
+use Rattle.fieldtype.specs.declared.Found.the-variants.{At}
 use Rattle.fieldtype.specs.declared.Taken.{Taken}
 use Rattle.fieldtype.specs.declared.Taken.the-variants.{Field, Unreadable as UnreadableType}
 use Rattle.fieldtype.proofs.Bounds.{taken-inside}
@@ -121,6 +120,10 @@ module _ (text : List ℕ) (slots end : ℕ) (read : parameters text ≡ Read sl
   unfolding slotsBehind
   nothing-behind past = behind-end text slots end read ∙ rw (le-leb (length text) (end + 1) past)
 
+  one-behind : end + 1 < length text → returnSlots text ≡ SlotsOf (byteSlots (byteAt text (end + 1)))
+  unfolding slotsBehind
+  one-behind below = behind-end text slots end read ∙ rw (lt-leb (length text) (end + 1) below)
+
   same-place : firstPlace text ≡ At end → returnSlots text ≡ firstReturn text
   same-place first = behind-end text slots end read ∙ ap (slotsBehind text) (sym first)
 
@@ -134,31 +137,6 @@ module _ (text : List ℕ) (slots end : ℕ) (read : parameters text ≡ Read sl
       nothing-behind (omega arith) ∙ sym (ap (slotsBehind text) (first ∙ sym (found-nowhere text end 41 (omega arith)))))
       (λ (below : end < length text). same-place (first ∙ sym (found-here text end 41 below (stop .1 below))))
       (eq-or-lt-of-le (stop .0))
-
-only-behind :
-    (text : List ℕ) (n : ℕ) → returnSlots text ≡ SlotsOf n →
-    (slots : ℕ) × (end : ℕ) × (parameters text ≡ Read slots end) × (byteAt text end ≡ 41) × (end + 1 < length text)
-unfolding slotsBehind
-only-behind text n e = by-list (parameters text) refl
-  where
-    Behind : Type 0
-    Behind = (slots : ℕ) × (end : ℕ) × (parameters text ≡ Read slots end) × (byteAt text end ≡ 41) × (end + 1 < length text)
-
-    by-test : (slots end : ℕ) → parameters text ≡ Read slots end → (b : Bool) → leb (length text) (end + 1) ≡ b → Behind
-    by-test slots end read true past =
-        let none : NoSlots ≡ SlotsOf n = sym (nothing-behind text slots end read (leb-true (length text) (end + 1) past)) ∙ e in
-        let z : _≡_ {A = ℕ} 0 1 = cc in
-        absurd (omega arith)
-    by-test slots end read false below =
-        let inside : end + 1 < length text = leb-false (length text) (end + 1) below in
-        (slots, end, read, list-ended text slots end read .1 (omega arith), inside)
-
-    by-list : (p : Params) → parameters text ≡ p → Behind
-    by-list (Read slots end) read = by-test slots end read (leb (length text) (end + 1)) refl
-    by-list UnreadableParams read =
-        let none : NoSlots ≡ SlotsOf n = sym (behind-none text read) ∙ e in
-        let z : _≡_ {A = ℕ} 0 1 = cc in
-        absurd (omega arith)
 
 -- ---- the end of the list, the first parenthesis and the last
 
@@ -203,7 +181,7 @@ return-place =
       endsInside = λ text slots end read. list-ended text slots end read .0;
       noneUnread = behind-none;
       noneBehind = nothing-behind;
-      onlyBehind = only-behind;
+      oneBehind = one-behind;
       sameAtFirst = same-place;
       sameWithoutOne = without-one;
       firstWithoutOne = first-without-one;

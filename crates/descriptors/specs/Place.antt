@@ -8,7 +8,7 @@ use lib.Dec.{eqb}
 use lib.ListN.{length, take}
 use Rattle.basics.specs.Bytes.{byteAt}
 use Rattle.basics.specs.Choice.{pick}
-use Rattle.descriptor.specs.Readers.{parameters, closing, slotsBehind, returnSlots}
+use Rattle.descriptor.specs.Readers.{parameters, closing, byteSlots, slotsBehind, returnSlots}
 use Rattle.descriptor.specs.declared.Params.the-variants.{Read, Unreadable as UnreadableParams}
 use Rattle.descriptor.specs.declared.Slots.{Slots}
 use Rattle.descriptor.specs.declared.Slots.the-variants.{Slots as SlotsOf, Unreadable as NoSlots}
@@ -61,13 +61,13 @@ pub record ReturnPlace : Type 0 where
   -- parameters that were read end at a parenthesis or with the text
   pub endsAtOne : (text : List ℕ) (slots end : ℕ) → parameters text ≡ Read slots end → end < length text → byteAt text end ≡ 41
   pub endsInside : (text : List ℕ) (slots end : ℕ) → parameters text ≡ Read slots end → end ≤ length text
-  -- there is a return exactly where a byte follows a parenthesis that ends them
+  -- so there is a return exactly where a byte follows a parenthesis that ends them, and that byte tells its slots
   pub noneUnread : (text : List ℕ) → parameters text ≡ UnreadableParams → returnSlots text ≡ NoSlots
   pub noneBehind :
       (text : List ℕ) (slots end : ℕ) → parameters text ≡ Read slots end → length text ≤ end + 1 → returnSlots text ≡ NoSlots
-  pub onlyBehind :
-      (text : List ℕ) (n : ℕ) → returnSlots text ≡ SlotsOf n →
-      (slots : ℕ) × (end : ℕ) × (parameters text ≡ Read slots end) × (byteAt text end ≡ 41) × (end + 1 < length text)
+  pub oneBehind :
+      (text : List ℕ) (slots end : ℕ) → parameters text ≡ Read slots end → end + 1 < length text →
+      returnSlots text ≡ SlotsOf (byteSlots (byteAt text (end + 1)))
   -- where they end at the first `)` the return is document 01's; so it is of any that were read without a `)` in a name, and then alone
   -- they end at the first
   pub sameAtFirst :

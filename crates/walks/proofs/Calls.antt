@@ -1,15 +1,13 @@
 -- A call whose parameters have plain names: the two places of its return are one, or none is asked for.
 -- Assumes nothing.
-use Prim.Native.Nat.{ℕ}
 use mathlib.Core.Path.{_≡_, refl, ap}
-use mathlib.Core.List.{List}
 use Rattle.descriptor.specs.Readers.{parameters, returnSlots}
 use Rattle.descriptor.specs.declared.Params.{Params}
 use Rattle.descriptor.specs.declared.Params.the-variants.{Read, Unreadable}
 use Rattle.descriptors.specs.Place.{firstReturn}
 use Rattle.descriptors.proofs.Place.{return-place}
 use Rattle.walk.specs.Walk.{called}
-use Rattle.walks.specs.Calls.{PlainNames, SameCalls}
+use Rattle.walks.specs.Calls.{SameCalls}
 
 pub same-calls : SameCalls
 same-calls takes d plain = by-list (parameters d) refl
