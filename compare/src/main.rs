@@ -57,7 +57,7 @@ fn each(run: &mut Run, count: u64, mut one: impl FnMut(&mut Run)) {
     }
 }
 
-/// The whole comparison: so many cases, so many made descriptors, a tenth of each with a `)` put into names, and every short
+/// The whole comparison: so many cases, so many made descriptors, a tenth more of each with a `)` put into names, and every short
 /// descriptor as the count allows.
 fn compare(seed: u64, count: u64) -> Run {
     let mut run = Run::new(seed);

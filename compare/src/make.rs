@@ -429,7 +429,7 @@ fn damaged_layout(random: &mut Random) -> Vec<u8> {
     bytes
 }
 
-/// A case in whose methods a `)` was put into names. Their parameters and returns have the same slots as before.
+/// A case in whose methods a `)` was put into names. Where none is cut by that, parameters and returns have the same slots as before.
 pub fn parenthesised(random: &mut Random) -> Vec<u8> {
     let mut parts = if random.once_in(2) { parts(random) } else { behind_a_call(random) };
     for member in parts.members.iter_mut().filter(|member| member.is_method) {

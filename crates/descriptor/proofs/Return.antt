@@ -1,4 +1,4 @@
--- What a method returns, once its list of parameters was looked at.
+-- What a method returns, once its parameters were looked at.
 -- Assumes nothing.
 use Prim.Native.Nat.{ℕ}
 use mathlib.Core.Path.{_≡_, ap}
@@ -10,12 +10,15 @@ use Rattle.descriptor.specs.declared.Params.the-variants.{Read, Unreadab
 use Rattle.descriptor.specs.declared.Slots.the-variants.{Unreadable as UnreadableSlots}
 
 module _ (text : List ℕ) where
-  -- it stands behind the end of the list
-  pub behind-end : (slots end : ℕ) → parameters text ≡ Read slots end → returnSlots text ≡ slotsBehind text (At end)
+  behind : (p : Params) → parameters text ≡ p → returnSlots text ≡ slotsBehind text (endOf p)
   unfolding returnSlots closing
-  behind-end slots end e = ap (λ (p : Params). slotsBehind text (endOf p)) e
+  behind p e = ap (λ (q : Params). slotsBehind text (endOf q)) e
 
-  -- a list that can't be read has no end
+  -- it stands behind their end
+  pub behind-end : (slots end : ℕ) → parameters text ≡ Read slots end → returnSlots text ≡ slotsBehind text (At end)
+  behind-end slots end e = behind (Read slots end) e
+
+  -- those that can't be read have none
   pub behind-none : parameters text ≡ UnreadableParams → returnSlots text ≡ UnreadableSlots
-  unfolding returnSlots closing slotsBehind
-  behind-none e = ap (λ (p : Params). slotsBehind text (endOf p)) e
+  unfolding slotsBehind
+  behind-none e = behind UnreadableParams e

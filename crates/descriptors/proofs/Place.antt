@@ -24,7 +24,7 @@ use Rattle.fieldtype.specs.declared.Taken.the-variants.{Field, Unreadable as Un
 use Rattle.fieldtype.proofs.Bounds.{taken-inside}
 use Rattle.fieldtype.proofs.Steps.{found-here, found-nowhere}
 use Rattle.jvms.specs.Descriptor.{int, base, class, void, typed, MethodType, render, renderAll, renderReturn, renderMethod, WellFormed, WellFormedMethod}
-use Rattle.descriptors.specs.Place.{firstPlace, firstReturn, lastPlace, Returns, occurs, ReturnPlace}
+use Rattle.descriptors.specs.Place.{firstPlace, firstReturn, lastPlace, Returns, occurs, NoneBefore, ReturnPlace}
 use Rattle.descriptors.proofs.Agree.{lenient-agrees}
 
 -- ---- where a list ends
@@ -75,13 +75,13 @@ module _ (text : List ℕ) where
 -- ---- the first parenthesis
 
 -- where none stands before a place, the search may begin there
-none-before :
+search-from :
     (text : List ℕ) (end from : ℕ) → occurs 41 (take end text) ≡ 0 → firstIn 41 text from ≡ firstIn 41 (drop end text) (from + end)
 unfolding firstIn
-none-before [] zero from none = refl
-none-before [] (suc end) from none = refl
-none-before (x ∷ xs) zero from none = ap (firstIn 41 (x ∷ xs)) (omega arith)
-none-before (x ∷ xs) (suc end) from none = by-test (eqb x 41) none (none-before xs end (from + 1))
+search-from [] zero from none = refl
+search-from [] (suc end) from none = refl
+search-from (x ∷ xs) zero from none = ap (firstIn 41 (x ∷ xs)) (omega arith)
+search-from (x ∷ xs) (suc end) from none = by-test (eqb x 41) none (search-from xs end (from + 1))
   where
     by-test :
         (b : Bool) → pick b 1 0 + occurs 41 (take end xs) ≡ 0 →
@@ -90,9 +90,9 @@ none-before (x ∷ xs) (suc end) from none = by-test (eqb x 41) none (none-befor
     by-test true z further = absurd (omega arith)
     by-test false z further = further (omega arith) ∙ ap (firstIn 41 (drop end xs)) (omega arith)
 
-first-is : (text : List ℕ) (end : ℕ) → occurs 41 (take end text) ≡ 0 → firstPlace text ≡ firstFrom 41 text end
+first-is : (text : List ℕ) (end : ℕ) → NoneBefore text end → firstPlace text ≡ firstFrom 41 text end
 unfolding firstPlace firstFrom
-first-is text end none = none-before text end 0 none ∙ ap (firstIn 41 (drop end text)) (omega arith)
+first-is text end none = search-from text end 0 none ∙ ap (firstIn 41 (drop end text)) (omega arith)
 
 -- none stands before the first
 first-alone : (text : List ℕ) (end from : ℕ) → firstIn 41 text from ≡ At (from + end) → occurs 41 (take end text) ≡ 0
@@ -109,9 +109,9 @@ first-alone (x ∷ xs) (suc end) from e = by-test (eqb x 41) e (first-alone xs e
     by-test true q further = let same : from ≡ from + suc end = cc in absurd (omega arith)
     by-test false q further = omega (arith, further (q ∙ ap At (omega arith)))
 
-first-without-one : (text : List ℕ) (end : ℕ) → firstPlace text ≡ At end → occurs 41 (take end text) ≡ 0
+plain-if-first : (text : List ℕ) (end : ℕ) → firstPlace text ≡ At end → NoneBefore text end
 unfolding firstPlace firstFrom
-first-without-one text end e = first-alone text end 0 (e ∙ ap At (omega arith))
+plain-if-first text end e = first-alone text end 0 (e ∙ ap At (omega arith))
 
 -- ---- what that says of the return
 
@@ -120,16 +120,16 @@ module _ (text : List ℕ) (slots end : ℕ) (read : parameters text ≡ Read sl
   unfolding slotsBehind
   nothing-behind past = behind-end text slots end read ∙ rw (le-leb (length text) (end + 1) past)
 
-  one-behind : end + 1 < length text → returnSlots text ≡ SlotsOf (byteSlots (byteAt text (end + 1)))
+  byte-behind : end + 1 < length text → returnSlots text ≡ SlotsOf (byteSlots (byteAt text (end + 1)))
   unfolding slotsBehind
-  one-behind below = behind-end text slots end read ∙ rw (lt-leb (length text) (end + 1) below)
+  byte-behind below = behind-end text slots end read ∙ rw (lt-leb (length text) (end + 1) below)
 
   same-place : firstPlace text ≡ At end → returnSlots text ≡ firstReturn text
   same-place first = behind-end text slots end read ∙ ap (slotsBehind text) (sym first)
 
-  without-one : occurs 41 (take end text) ≡ 0 → returnSlots text ≡ firstReturn text
+  same-if-plain : NoneBefore text end → returnSlots text ≡ firstReturn text
   unfolding slotsBehind
-  without-one none =
+  same-if-plain none =
       let first : firstPlace text ≡ firstFrom 41 text end = first-is text end none in
       let stop = list-ended text slots end read in
       ⊎-elim
@@ -174,15 +174,15 @@ not-the-last returns =
 pub return-place : ReturnPlace
 return-place =
     record {
-      theEnd = the-end;
+      theEnd = λ m well. the-end m well;
       notTheFirst = not-the-first;
       notTheLast = not-the-last;
-      endsAtOne = λ text slots end read. list-ended text slots end read .1;
+      endsAtParenthesis = λ text slots end read. list-ended text slots end read .1;
       endsInside = λ text slots end read. list-ended text slots end read .0;
       noneUnread = behind-none;
       noneBehind = nothing-behind;
-      oneBehind = one-behind;
+      byteBehind = byte-behind;
       sameAtFirst = same-place;
-      sameWithoutOne = without-one;
-      firstWithoutOne = first-without-one;
+      sameIfPlain = same-if-plain;
+      plainIfFirst = plain-if-first;
     }

@@ -50,6 +50,10 @@ abbrev pub occurs : ℕ → List ℕ → ℕ
 occurs byte [] = 0
 occurs byte (x ∷ xs) = pick (eqb x byte) 1 0 + occurs byte xs
 
+-- no `)` stands before an index; before the end of parameters none stands but in names
+abbrev pub NoneBefore : List ℕ → ℕ → Type 0
+NoneBefore text end = occurs 41 (take end text) ≡ 0
+
 -- ---- the statements
 
 pub record ReturnPlace : Type 0 where
@@ -59,20 +63,19 @@ pub record ReturnPlace : Type 0 where
   pub notTheFirst : Returns firstPlace → ⊥
   pub notTheLast : Returns lastPlace → ⊥
   -- parameters that were read end at a parenthesis or with the text
-  pub endsAtOne : (text : List ℕ) (slots end : ℕ) → parameters text ≡ Read slots end → end < length text → byteAt text end ≡ 41
+  pub endsAtParenthesis : (text : List ℕ) (slots end : ℕ) → parameters text ≡ Read slots end → end < length text → byteAt text end ≡ 41
   pub endsInside : (text : List ℕ) (slots end : ℕ) → parameters text ≡ Read slots end → end ≤ length text
   -- so there is a return exactly where a byte follows a parenthesis that ends them, and that byte tells its slots
   pub noneUnread : (text : List ℕ) → parameters text ≡ UnreadableParams → returnSlots text ≡ NoSlots
   pub noneBehind :
       (text : List ℕ) (slots end : ℕ) → parameters text ≡ Read slots end → length text ≤ end + 1 → returnSlots text ≡ NoSlots
-  pub oneBehind :
+  pub byteBehind :
       (text : List ℕ) (slots end : ℕ) → parameters text ≡ Read slots end → end + 1 < length text →
       returnSlots text ≡ SlotsOf (byteSlots (byteAt text (end + 1)))
-  -- where they end at the first `)` the return is document 01's; so it is of any that were read without a `)` in a name, and then alone
-  -- they end at the first
+  -- where they end at the first `)` the return is document 01's; so it is of any that were read with plain names, without a `)`, and
+  -- only with such they end at the first
   pub sameAtFirst :
       (text : List ℕ) (slots end : ℕ) → parameters text ≡ Read slots end → firstPlace text ≡ At end → returnSlots text ≡ firstReturn text
-  pub sameWithoutOne :
-      (text : List ℕ) (slots end : ℕ) → parameters text ≡ Read slots end → occurs 41 (take end text) ≡ 0 →
-      returnSlots text ≡ firstReturn text
-  pub firstWithoutOne : (text : List ℕ) (end : ℕ) → firstPlace text ≡ At end → occurs 41 (take end text) ≡ 0
+  pub sameIfPlain :
+      (text : List ℕ) (slots end : ℕ) → parameters text ≡ Read slots end → NoneBefore text end → returnSlots text ≡ firstReturn text
+  pub plainIfFirst : (text : List ℕ) (end : ℕ) → firstPlace text ≡ At end → NoneBefore text end

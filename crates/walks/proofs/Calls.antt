@@ -14,5 +14,5 @@ same-calls takes d plain = by-list (parameters d) refl
   where
     by-list : (p : Params) → parameters d ≡ p → called takes p (returnSlots d) ≡ called takes p (firstReturn d)
     by-list (Read slots end) read =
-        ap (called takes (Read slots end)) (return-place .sameWithoutOne d slots end read (plain slots end read))
+        ap (called takes (Read slots end)) (return-place .sameIfPlain d slots end read (plain slots end read))
     by-list Unreadable read = refl
