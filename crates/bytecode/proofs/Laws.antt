@@ -2,29 +2,30 @@
 -- Assumes nothing.
 use Prim.Native.Nat.{ℕ, zero, suc, _+_, _≤_, _<_}
 use native.Mathlib.Omega.{arith}
-use mathlib.Core.Path.{_≡_, refl, _∙_, sym}
+use mathlib.Core.Path.{_≡_, refl, _∙_, sym, ap}
 use mathlib.Core.Bool.{Bool, true, false}
 use mathlib.Core.List.{List}
 use lib.Dec.{eqb, leb}
-use lib.ListN.{length}
+use lib.ListN.{length, getD}
 use borrow.Author.Tests.{leb-true, ne-eqb}
 use Rattle.basics.specs.Bytes.{byteAt}
 use Rattle.basics.specs.Choice.{pick}
 use Rattle.jvms.specs.Format.{Format, fixed, tableswitch, lookupswitch, wide, reserved, widths, formatOf}
-use Rattle.bytecode.specs.Length.{tableBytes, lookupBytes, wideBytes, bytesBy, bytesOf, within, lengthOf, numbered}
+use Rattle.jvms.proofs.Reserved.{isReserved, reserved-from-202}
+use Rattle.bytecode.specs.Length.{tableBytes, lookupBytes, wideBytes, bytesBy, bytesOf, within, documentLength, lengthOf, numbered}
 use Rattle.fixed.specs.Fixed.{fixedBy, fixedLength, FixedLengths}
 use Rattle.bytecode.specs.Length.{lengthBy}
 use Rattle.bytecode.specs.Rule.{LengthRule}
 use Rattle.bytecode.specs.declared.Measure.{Measure}
-use Rattle.bytecode.specs.declared.Measure.the-variants.{Length, NoLength}
+use Rattle.bytecode.specs.declared.Measure.the-variants.{Length, NoLength, Reserved}
 
 -- a length that is given is the rule's, and stays in the code
 pub record Given (code : List ℕ) (pc n : ℕ) : Type 0 where
   pub bytes : n ≡ bytesOf code pc
   pub inside : pc + n ≤ length code
 
-pub given : (code : List ℕ) (pc n : ℕ) → lengthOf code pc ≡ Length n → Given code pc n
-unfolding lengthOf within
+pub given : (code : List ℕ) (pc n : ℕ) → documentLength code pc ≡ Length n → Given code pc n
+unfolding documentLength within
 given code pc n e = by-test (leb (pc + bytesOf code pc) (length code)) refl e
   where
     by-test :
@@ -51,17 +52,18 @@ pub bytes-positive : (code : List ℕ) (pc : ℕ) → 1 ≤ bytesOf code pc
 unfolding bytesOf
 bytes-positive code pc = one-at-least (formatOf (byteAt code pc)) code pc
 
--- the length by the table of all fixed lengths is document 01's
+-- the length by the table of all fixed lengths is the rule's
 pub by-fixed-lengths :
     (lengths code : List ℕ) (pc : ℕ) → FixedLengths lengths → byteAt code pc < 256 → lengthBy lengths code pc ≡ lengthOf code pc
-unfolding lengthBy lengthOf bytesOf fixedLength
+unfolding lengthBy lengthOf documentLength bytesOf fixedLength
 by-fixed-lengths lengths code pc table below =
-    rw (table .entries (byteAt code pc) below) (by-format (formatOf (byteAt code pc)))
+    rw (table .entries (byteAt code pc) below, ← reserved-from-202 (byteAt code pc) below)
+    (by-format (formatOf (byteAt code pc)))
   where
-    by-format :
-        (f : Format) →
-        pick (eqb (fixedBy f) 0) (within code pc (bytesBy f code pc)) (within code pc (fixedBy f))
-        ≡ within code pc (bytesBy f code pc)
+    by-rule : Format → Measure
+    by-rule f = pick (isReserved f) Reserved (within code pc (bytesBy f code pc))
+
+    by-format : (f : Format) → pick (eqb (fixedBy f) 0) (by-rule f) (within code pc (fixedBy f)) ≡ by-rule f
     by-format (fixed os) = rw (ne-eqb (1 + widths os) 0 (omega arith))
     by-format tableswitch = refl
     by-format lookupswitch = refl
@@ -84,10 +86,15 @@ pub measured-in-bounds :
 measured-in-bounds rule code pc n e k below =
     omega (arith, given code pc n (rule .documented code pc n e) .bytes, rule-inside rule code pc n e)
 
--- two answers with the same numbers are the same
-pub numbered-injective : (one another : Measure) → numbered one ≡ numbered another → one ≡ another
+-- two answers with the same numbers are the same: the numbers are read back
+abbrev answered : List ℕ → Measure
+answered l = pick (eqb (getD l 0 0) 0) (Length (getD l 1 0)) (pick (eqb (getD l 0 0) 1) NoLength Reserved)
+
+back : (answer : Measure) → answered (numbered answer) ≡ answer
 unfolding numbered
-numbered-injective (Length m) (Length n) e = let same : m ≡ n = cc in rw same
-numbered-injective (Length m) NoLength e = let z : _≡_ {A = ℕ} 0 1 = cc in absurd (omega arith)
-numbered-injective NoLength (Length n) e = let z : _≡_ {A = ℕ} 0 1 = cc in absurd (omega arith)
-numbered-injective NoLength NoLength e = refl
+back (Length n) = refl
+back NoLength = refl
+back Reserved = refl
+
+pub numbered-injective : (one another : Measure) → numbered one ≡ numbered another → one ≡ another
+numbered-injective one another e = sym (back one) ∙ ap answered e ∙ back another

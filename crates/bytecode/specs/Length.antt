@@ -1,8 +1,10 @@
--- The length of the instruction at an index of a code (document 01, "Measuring an instruction").
+-- The length of the instruction at an index of a code: document 01's rule ("Measuring an instruction"), and the one in use, by which a
+-- reserved byte has none (document 02, request 6).
 -- "These are whole numbers that never wrap."
 -- Assumes nothing.
 use Prim.Native.Nat.{ℕ, _+_, _-_, _*_, _/_, _^_, _<_}
 use mathlib.Core.Path.{_≡_}
+use mathlib.Core.Bool.{Bool}
 use mathlib.Core.List.{List, [], _∷_}
 use lib.Dec.{eqb, leb}
 use lib.ListN.{length}
@@ -11,7 +13,7 @@ use Rattle.basics.specs.Choice.{pick}
 use Rattle.jvms.specs.Format.{Format, fixed, tableswitch, lookupswitch, wide, reserved, widths, formatOf}
 use Rattle.reads.specs.Signed.{i32At}
 use Rattle.bytecode.specs.declared.Measure.{Measure}
-use Rattle.bytecode.specs.declared.Measure.the-variants.{Length, NoLength}
+use Rattle.bytecode.specs.declared.Measure.the-variants.{Length, NoLength, Reserved}
 
 -- the first multiple of 4 from an index on
 abbrev pub aligned : ℕ → ℕ
@@ -58,16 +60,26 @@ unfoldable pub within : List ℕ → ℕ → ℕ → Measure
 within code pc n = pick (leb (pc + n) (length code)) (Length n) NoLength
 
 -- document 01's length of the instruction at pc
-unfoldable pub lengthOf : List ℕ → ℕ → Measure
-lengthOf code pc = within code pc (bytesOf code pc)
+unfoldable pub documentLength : List ℕ → ℕ → Measure
+documentLength code pc = within code pc (bytesOf code pc)
 
--- the length by a table: what its entry for the opcode fixes, document 01's where the entry is 0
+-- "202 to 255"
+abbrev pub reservedByte : ℕ → Bool
+reservedByte op = leb 202 op
+
+-- "The length of 202 to 255 shall be none, with an answer that tells a reserved byte from a cut instruction." Past the end there is no
+-- byte, so none that is reserved.
+unfoldable pub lengthOf : List ℕ → ℕ → Measure
+lengthOf code pc = pick (reservedByte (byteAt code pc)) Reserved (documentLength code pc)
+
+-- the length by a table: what its entry for the opcode fixes, and where the entry is 0 the one above
 unfoldable pub lengthBy : List ℕ → List ℕ → ℕ → Measure
 lengthBy lengths code pc =
     let n = byteAt lengths (byteAt code pc) in
     pick (eqb n 0) (lengthOf code pc) (within code pc n)
 
--- an answer as numbers: 0 and the length, or 1
+-- an answer as numbers: 0 and the length, 1 for a cut instruction, 2 for a reserved byte
 unfoldable pub numbered : Measure → List ℕ
 numbered (Length n) = 0 ∷ n ∷ []
 numbered NoLength = 1 ∷ []
+numbered Reserved = 2 ∷ []

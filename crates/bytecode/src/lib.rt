@@ -1,4 +1,4 @@
-// How many bytes the instruction at an index of a code takes (document 01, "Measuring an instruction").
+// How many bytes the instruction at an index of a code takes (document 01, "Measuring an instruction"; document 02, request 6).
 // Every public function takes any code and any index.
 use fixed::fixed_by;
 use fixed::fixed_length;
@@ -10,14 +10,16 @@ ghost use Prim.Native.Nat.{_+_, _-_, _*_, _^_, _≤_, _<_};
 ghost use lib.ListN.{length};
 ghost use Rattle.basics.specs.Bytes.{byteAt};
 ghost use Rattle.bytecode.specs.Length.{aligned, operandsAt, tableBytes, lookupBytes, wideBytes};
-ghost use Rattle.bytecode.specs.Length.{bytesOf, lengthOf, lengthBy};
+ghost use Rattle.bytecode.specs.Length.{bytesOf, within, lengthOf, lengthBy};
 
 // What measuring an instruction answers.
 pub enum Measure {
     // Its bytes, the opcode among them.
     Length(usize),
-    // There is no instruction at the index, or it would pass the end of the code.
+    // There is no byte at the index, or the instruction would pass the end of the code.
     NoLength,
+    // The byte is reserved, 202 to 255: no instruction has it as its opcode.
+    Reserved,
 }
 
 // The padding bytes before the operands of a switch, from the index after its opcode to a multiple of 4.
@@ -71,9 +73,9 @@ fn lookup_bytes(code: &[u8], pc: usize) -> usize
     at - pc + 8 + 8 * minus(count, 0x8000_0000)
 }
 
-// The bytes of the instruction at pc, also where they pass the end.
+// The bytes of the instruction at pc, whose opcode is not reserved, also where they pass the end.
 fn bytes_of(code: &[u8], pc: usize) -> usize
-    requires { ⌜ pc < length (now code) ⌝ }
+    requires { ⌜ (pc < length (now code)) × (byteAt (now code) pc < 202) ⌝ }
     ensures { λ r. ⌜ r ≡ bytesOf (now (code .entry)) pc ⌝ }
 {
     let op = code[pc];
@@ -85,14 +87,11 @@ fn bytes_of(code: &[u8], pc: usize) -> usize
     }
 }
 
-// The length of the instruction at pc.
-pub fn instruction_length(code: &[u8], pc: usize) -> Measure
-    ensures { λ r. ⌜ r ≡ lengthOf (now (code .entry)) pc ⌝ }
+// So many bytes from pc on, where they pass no end.
+fn within(code: &[u8], pc: usize, bytes: usize) -> Measure
+    requires { ⌜ pc < length (now code) ⌝ }
+    ensures { λ r. ⌜ r ≡ within (now (code .entry)) pc bytes ⌝ }
 {
-    if code.len() <= pc {
-        return Measure::NoLength;
-    }
-    let bytes = bytes_of(code, pc);
     if bytes <= code.len() - pc {
         Measure::Length(bytes)
     } else {
@@ -100,20 +99,29 @@ pub fn instruction_length(code: &[u8], pc: usize) -> Measure
     }
 }
 
-// The same by a lent table, where it fixes the length.
-pub fn length_by(lengths: &[u8; 256], code: &[u8], pc: usize) -> Measure
-    ensures { λ r. ⌜ r ≡ lengthBy (now (lengths .entry)) (now (code .entry)) pc ⌝ }
+// The length of the instruction at pc.
+pub fn instruction_length(code: &[u8], pc: usize) -> Measure
+    ensures { λ r. ⌜ r ≡ lengthOf (now (code .entry)) pc ⌝ }
 {
     if code.len() <= pc {
         return Measure::NoLength;
     }
-    let fixed = fixed_by(lengths, code[pc]) as usize;
-    if fixed == 0 {
-        return instruction_length(code, pc);
+    if Opcode::BREAKPOINT <= code[pc] {
+        return Measure::Reserved;
     }
-    if fixed <= code.len() - pc {
-        Measure::Length(fixed)
-    } else {
-        Measure::NoLength
+    let bytes = bytes_of(code, pc);
+    within(code, pc, bytes)
+}
+
+// The same by a lent table, where it fixes the length.
+pub fn length_by(lengths: &[u8; 256], code: &[u8], pc: usize) -> Measure
+    ensures { λ r. ⌜ r ≡ lengthBy (now (lengths .entry)) (now (code .entry)) pc ⌝ }
+{
+    if pc < code.len() {
+        let fixed = fixed_by(lengths, code[pc]) as usize;
+        if 0 < fixed {
+            return within(code, pc, fixed);
+        }
     }
+    instruction_length(code, pc)
 }

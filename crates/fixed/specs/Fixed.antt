@@ -1,5 +1,4 @@
--- The length that an opcode alone fixes (document 01, "Measuring an instruction"): "Lengths are those of JVMS 6.5, except that 202 to
--- 255 count one byte."
+-- The length that an opcode alone fixes (document 01, "Measuring an instruction"): "Lengths are those of JVMS 6.5".
 -- Assumes nothing.
 use Prim.Native.Nat.{ℕ, _+_, _<_}
 use mathlib.Core.Path.{_≡_}
@@ -9,13 +8,14 @@ use Rattle.basics.specs.Bytes.{byteAt}
 use Rattle.jvms.specs.Format.{Format, fixed, tableswitch, lookupswitch, wide, reserved, widths, formatOf}
 use Rattle.jvms.specs.Stack.{keyAt}
 
--- the bytes that the opcode alone fixes: "0 for the three variable ones"
+-- the bytes that the opcode alone fixes: "0 for the three variable ones", and for the reserved ones, whose length "shall be none"
+-- (document 02, request 6)
 abbrev pub fixedBy : Format → ℕ
 fixedBy (fixed os) = 1 + widths os
 fixedBy tableswitch = 0
 fixedBy lookupswitch = 0
 fixedBy wide = 0
-fixedBy reserved = 1
+fixedBy reserved = 0
 
 unfoldable pub fixedLength : ℕ → ℕ
 fixedLength op = fixedBy (formatOf op)

@@ -1,4 +1,5 @@
-// The lengths that an opcode alone fixes (document 01, "What changes shape"): one table of 256 entries.
+// The lengths that an opcode alone fixes (document 01, "What changes shape"): one table of 256 entries. Those of the reserved opcodes
+// are 0 (document 02, request 6).
 ghost use mathlib.Core.Path.{_≡_};
 ghost use Rattle.basics.specs.Bytes.{byteAt};
 ghost use Rattle.fixed.specs.Fixed.{fixedLength, FixedLengths};
@@ -25,7 +26,7 @@ pub fn fixed_length(op: u8) -> u8
     fixed_by(&lengths, op)
 }
 
-// The length of each opcode's instruction, 0 where the opcode does not fix it: wide, tableswitch and lookupswitch.
+// The length of each opcode's instruction, 0 where the opcode fixes none: wide, tableswitch, lookupswitch and the reserved ones.
 const FIXED_LENGTHS: [u8; 256] = [
     1, // 0 nop
     1, // 1 aconst_null
@@ -229,58 +230,58 @@ const FIXED_LENGTHS: [u8; 256] = [
     3, // 199 ifnonnull
     5, // 200 goto_w
     5, // 201 jsr_w
-    1, // 202 breakpoint
-    1, // 203 reserved
-    1, // 204 reserved
-    1, // 205 reserved
-    1, // 206 reserved
-    1, // 207 reserved
-    1, // 208 reserved
-    1, // 209 reserved
-    1, // 210 reserved
-    1, // 211 reserved
-    1, // 212 reserved
-    1, // 213 reserved
-    1, // 214 reserved
-    1, // 215 reserved
-    1, // 216 reserved
-    1, // 217 reserved
-    1, // 218 reserved
-    1, // 219 reserved
-    1, // 220 reserved
-    1, // 221 reserved
-    1, // 222 reserved
-    1, // 223 reserved
-    1, // 224 reserved
-    1, // 225 reserved
-    1, // 226 reserved
-    1, // 227 reserved
-    1, // 228 reserved
-    1, // 229 reserved
-    1, // 230 reserved
-    1, // 231 reserved
-    1, // 232 reserved
-    1, // 233 reserved
-    1, // 234 reserved
-    1, // 235 reserved
-    1, // 236 reserved
-    1, // 237 reserved
-    1, // 238 reserved
-    1, // 239 reserved
-    1, // 240 reserved
-    1, // 241 reserved
-    1, // 242 reserved
-    1, // 243 reserved
-    1, // 244 reserved
-    1, // 245 reserved
-    1, // 246 reserved
-    1, // 247 reserved
-    1, // 248 reserved
-    1, // 249 reserved
-    1, // 250 reserved
-    1, // 251 reserved
-    1, // 252 reserved
-    1, // 253 reserved
-    1, // 254 impdep1
-    1, // 255 impdep2
+    0, // 202 breakpoint
+    0, // 203 reserved
+    0, // 204 reserved
+    0, // 205 reserved
+    0, // 206 reserved
+    0, // 207 reserved
+    0, // 208 reserved
+    0, // 209 reserved
+    0, // 210 reserved
+    0, // 211 reserved
+    0, // 212 reserved
+    0, // 213 reserved
+    0, // 214 reserved
+    0, // 215 reserved
+    0, // 216 reserved
+    0, // 217 reserved
+    0, // 218 reserved
+    0, // 219 reserved
+    0, // 220 reserved
+    0, // 221 reserved
+    0, // 222 reserved
+    0, // 223 reserved
+    0, // 224 reserved
+    0, // 225 reserved
+    0, // 226 reserved
+    0, // 227 reserved
+    0, // 228 reserved
+    0, // 229 reserved
+    0, // 230 reserved
+    0, // 231 reserved
+    0, // 232 reserved
+    0, // 233 reserved
+    0, // 234 reserved
+    0, // 235 reserved
+    0, // 236 reserved
+    0, // 237 reserved
+    0, // 238 reserved
+    0, // 239 reserved
+    0, // 240 reserved
+    0, // 241 reserved
+    0, // 242 reserved
+    0, // 243 reserved
+    0, // 244 reserved
+    0, // 245 reserved
+    0, // 246 reserved
+    0, // 247 reserved
+    0, // 248 reserved
+    0, // 249 reserved
+    0, // 250 reserved
+    0, // 251 reserved
+    0, // 252 reserved
+    0, // 253 reserved
+    0, // 254 impdep1
+    0, // 255 impdep2
 ];

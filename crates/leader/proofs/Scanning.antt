@@ -6,12 +6,15 @@ use native.Mathlib.Nat.{not-suc-le-zero, sub-zero}
 use native.Mathlib.Numerals.{sub-one}
 use mathlib.Core.Bool.{Bool, true, false}
 use mathlib.Core.Path.{_≡_, refl, _∙_, sym, ap₂}
-use mathlib.Core.List.{List}
+use mathlib.Core.List.{List, [], _∷_}
 use lib.Dec.{ltb}
 use lib.ListN.{length}
+use denote.Enum.Declared.{tagOf}
+use types.Run.{OneOf, miss}
 use borrow.Author.Tests.{ltb-true, ltb-false, lt-ltb, le-ltb}
+use Rattle.bytecode.proofs.Measure.{the-type}
 use Rattle.bytecode.specs.declared.Measure.{Measure}
-use Rattle.bytecode.specs.declared.Measure.the-variants.{Length, NoLength}
+use Rattle.bytecode.specs.declared.Measure.the-variants.{Length, NoLength, Reserved}
 use Rattle.greatest.specs.Greatest.{greatest}
 use Rattle.leader.specs.Targets.{leadersAt}
 use Rattle.leader.specs.Scan.{Instructions, ended, unmeasured, instruction, scanStep, scanFrom, instructions, scanCount, leadersOf, answered, blockLeader}
@@ -20,14 +23,26 @@ use Rattle.leader.specs.declared.Scan.the-variants.{Leader, Unmeasured}
 use Rattle.leader.proofs.Greatest.{greatest-append, raised-by}
 
 -- an answer that is no length
-pub none-given : {answer : Measure} → answer ≡ NoLength → (n : ℕ) → answer ≡ Length n → ⊥
-none-given none n e = let z : _≡_ {A = ℕ} 0 1 = cc in absurd (omega arith)
+abbrev pub None : Measure → Type 0
+None answer = (n : ℕ) → answer ≡ Length n → ⊥
+
+pub cut-is-none : {answer : Measure} → answer ≡ NoLength → None answer
+cut-is-none is n e = let z : _≡_ {A = ℕ} 0 1 = cc in absurd (omega arith)
+
+pub reserved-is-none : {answer : Measure} → answer ≡ Reserved → None answer
+reserved-is-none is n e = let z : _≡_ {A = ℕ} 0 1 = cc in absurd (omega arith)
+
+-- as a `match` tells it: the answer is one of the other two
+pub told-none : (answer : Measure) → OneOf (1 ∷ 2 ∷ []) (tagOf the-type answer) → None answer
+told-none (Length m) told n e = miss (1 ∷ 2 ∷ []) 0 tt told
+told-none NoLength told n e = cut-is-none refl n e
+told-none Reserved told n e = reserved-is-none refl n e
 
 module _ (measure : List ℕ → ℕ → Measure) (code : List ℕ) (pc : ℕ) where
   -- what the scan has at an index, with k more to come: the end, an instruction without a length, or one with its length
   pub data Turn (k : ℕ) : Instructions → Type 0 where
     at-end : length code ≤ pc → Turn k ended
-    without : pc < length code → ((n : ℕ) → measure code pc ≡ Length n → ⊥) → Turn k (unmeasured pc)
+    without : pc < length code → None (measure code pc) → Turn k (unmeasured pc)
     with-length :
         {n : ℕ} → pc < length code → measure code pc ≡ Length n → Turn k (instruction pc n (scanFrom measure code k (pc + n)))
 
@@ -41,7 +56,8 @@ module _ (measure : List ℕ → ℕ → Measure) (code : List ℕ) (pc : ℕ) w
           Turn k (scanStep t answer pc (λ next. scanFrom measure code k next))
       by-measure false e answer measured = at-end (ltb-false pc (length code) e)
       by-measure true e (Length n) measured = with-length (ltb-true pc (length code) e) measured
-      by-measure true e NoLength measured = without (ltb-true pc (length code) e) (none-given measured)
+      by-measure true e NoLength measured = without (ltb-true pc (length code) e) (cut-is-none measured)
+      by-measure true e Reserved measured = without (ltb-true pc (length code) e) (reserved-is-none measured)
 
   -- an instruction that has a length
   pub scan-one :
@@ -53,7 +69,7 @@ module _ (measure : List ℕ → ℕ → Measure) (code : List ℕ) (pc : ℕ) w
 
   -- one that has none
   pub scan-stops :
-      (k : ℕ) → 0 < k → pc < length code → ((n : ℕ) → measure code pc ≡ Length n → ⊥) → scanFrom measure code k pc ≡ unmeasured pc
+      (k : ℕ) → 0 < k → pc < length code → None (measure code pc) → scanFrom measure code k pc ≡ unmeasured pc
   scan-stops zero some inside none = absurd (not-suc-le-zero some)
   scan-stops (suc k) some inside none = by-turn (turn k)
     where
@@ -106,7 +122,7 @@ module _ (measure : List ℕ → ℕ → Measure) (code : List ℕ) (fault best 
 
   -- the two ends
   pub stops :
-      ((n : ℕ) → measure code pc ≡ Length n → ⊥) →
+      None (measure code pc) →
       Unmeasured pc count ≡ onward code fault best count (scanFrom measure code (length code - count) pc)
   unfolding onward answered scanCount
   stops none = rw (scan-stops measure code pc (length code - count) (omega arith) inside none) (ap₂ Unmeasured refl (omega arith))

@@ -7,7 +7,7 @@ use mathlib.Core.List.{List, [], _∷_, _++_}
 use lib.Dec.{ltb}
 use lib.ListN.{length}
 use Rattle.bytecode.specs.declared.Measure.{Measure}
-use Rattle.bytecode.specs.declared.Measure.the-variants.{Length, NoLength}
+use Rattle.bytecode.specs.declared.Measure.the-variants.{Length, NoLength, Reserved}
 use Rattle.greatest.specs.Greatest.{greatest}
 use Rattle.leader.specs.Targets.{leadersAt}
 use Rattle.leader.specs.declared.Scan.{Scan}
@@ -24,6 +24,7 @@ abbrev pub scanStep : Bool → Measure → ℕ → (ℕ → Instructions) → In
 scanStep false answer pc following = ended
 scanStep true (Length n) pc following = instruction pc n (following (pc + n))
 scanStep true NoLength pc following = unmeasured pc
+scanStep true Reserved pc following = unmeasured pc
 
 -- from pc on, at most k instructions
 unfoldable pub scanFrom : (List ℕ → ℕ → Measure) → List ℕ → ℕ → ℕ → Instructions

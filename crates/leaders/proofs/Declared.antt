@@ -172,7 +172,7 @@ module _ (rule : LengthRule) (code : List ℕ) where
       (Memᴰ·append-left (leadersOf code (restAt (reached .count + 1) (pc + n))) m))
 
   -- where the scan comes to the end, each instruction that is reached has a length
-  has-length :
+  pub has-length :
       {pc : ℕ} (leader total at count : ℕ) → Reached rule code pc →
       answered (instructions (rule .measure) code) leader total ≡ Leader at count → (n : ℕ) × (rule .measure code pc ≡ Length n)
   unfolding answered

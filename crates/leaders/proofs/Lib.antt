@@ -1,3 +1,5 @@
+pub mod ByDocument
 pub mod Declared
 pub mod Landings
 pub mod Most
+pub mod Reserved

@@ -10,7 +10,8 @@ use lib.ListN.{length}
 use Rattle.basics.specs.Bytes.{byteAt, AreBytes}
 use Rattle.basics.specs.Member.{_∈_}
 use Rattle.jvms.specs.Branch.{landingsAt, endsBlock}
-use Rattle.bytecode.specs.Rule.{LengthRule}
+use Rattle.bytecode.specs.Length.{documentLength}
+use Rattle.bytecode.specs.Rule.{LengthRule, document-rule}
 use Rattle.bytecode.specs.declared.Measure.{Measure}
 use Rattle.bytecode.specs.declared.Measure.the-variants.{Length}
 use Rattle.greatest.specs.Greatest.{greatest}
@@ -91,6 +92,22 @@ abbrev pub LedAlike : Type 0
 LedAlike =
     (measure : List ℕ → ℕ → Measure) (code : List ℕ) (fault : ℕ) (one another : List ℕ) →
     greatest fault one ≡ greatest fault another → blockLeader measure one code fault ≡ blockLeader measure another code fault
+
+-- Document 01's rule gives the most lengths. Another leads as it does wherever the two measure alike what document 01's scan reaches.
+-- A leader that another gives is document 01's, with its count, and the two scans reach the same instructions.
+pub record LedByDocument : Type 0 where
+  pub sameLengths :
+      (rule : LengthRule) (extra code : List ℕ) (fault : ℕ) →
+      ((pc : ℕ) → Reached document-rule code pc → rule .measure code pc ≡ documentLength code pc) →
+      blockLeader (rule .measure) extra code fault ≡ blockLeader documentLength extra code fault
+  pub sameLeader :
+      (rule : LengthRule) (extra code : List ℕ) (fault leader count : ℕ) →
+      blockLeader (rule .measure) extra code fault ≡ Leader leader count →
+      blockLeader documentLength extra code fault ≡ Leader leader count
+  pub sameReach :
+      (rule : LengthRule) (extra code : List ℕ) (fault leader count : ℕ) →
+      blockLeader (rule .measure) extra code fault ≡ Leader leader count →
+      (pc : ℕ) → Reached document-rule code pc → Reached rule code pc
 
 -- 0, a leader of every code, adds nothing
 abbrev pub ZeroAddsNothing : Type 0

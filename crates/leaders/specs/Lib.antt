@@ -1,1 +1,2 @@
 pub mod Leader
+pub mod Reserved

@@ -1,2 +1,3 @@
 pub mod Agree
+pub mod Reserved
 pub mod Signed

@@ -1,4 +1,5 @@
--- `bytecode::bytes_of` meets its contract. Three opcodes have rules of their own; any other fixes its length by itself.
+-- `bytecode::bytes_of` meets its contract. Three opcodes have rules of their own; any other that is not reserved fixes its length by
+-- itself.
 -- Assumes nothing.
 use native.Mathlib.Omega.{arith}
 use mathlib.Core.Path.{_∙_}

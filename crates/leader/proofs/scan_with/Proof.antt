@@ -7,11 +7,12 @@ use mathlib.Core.Path.{_≡_, _∙_, sym}
 use lib.ListN.{length}
 use borrow.Author.Needs.{needs}
 use Rattle.bytecode.specs.Length.{lengthOf}
+use Rattle.bytecode.specs.Rule.{length-documented}
 use Rattle.bytecode.specs.declared.Measure.the-variants.{Length}
 use Rattle.leader.specs.Scan.{scanFrom, blockLeader}
 use Rattle.bytecode.proofs.Laws.{Given, given, bytes-positive, by-fixed-lengths}
 use Rattle.leader.proofs.Greatest.{greatest-one}
-use Rattle.leader.proofs.Scanning.{none-given, onward, at-first, one-turn, stops, ends}
+use Rattle.leader.proofs.Scanning.{told-none, onward, at-first, one-turn, stops, ends}
 use Rattle.leader.proofs.scan_with.Statement.{statement}
 use Rattle.leader.proofs.scan_with.Tie as tie
 
@@ -58,16 +59,13 @@ measures c =
 enum-known-bytes : tie.Need-enum-known-bytes Inv-loop μ-loop
 enum-known-bytes c = search needs
 
-enum-told : tie.Need-enum-told Inv-loop μ-loop
-enum-told c = search needs
-
 returns : tie.Need-returns Inv-loop μ-loop
 returns c =
-    let turn = c .before .before in
+    let turn = c .before in
     let l = turn .before .before .before .loop in
     let a = turn .before .before .before .before .before .before .before .args in
     stops lengthOf (a .code .now) (a .fault) (l .best) (l .count) (l .pc) (omega arith) (turn .before .before .loop-test .taken)
-    (none-given (measures turn ∙ c .enum-told .given .1))
+    (λ n e. told-none (turn .length-by .result) (c .match .keys2) n (sym (measures turn) ∙ e))
     ∙ l .inv .0
 
 -- the instruction of a turn has a length
@@ -88,7 +86,7 @@ size c =
     let turn = c .before .before .before in
     let code = turn .before .before .before .before .before .before .before .args .code .now in
     let pc = turn .before .before .before .loop .pc in
-    let is = given code pc (c .before .bytes .given .0 .0) (measured c) in
+    let is = given code pc (c .before .bytes .given .0 .0) (length-documented code pc (c .before .bytes .given .0 .0) (measured c)) in
     (is, omega (arith, is .bytes, bytes-positive code pc))
 
 add-leaders-at : tie.Need-add-leaders-at Inv-loop μ-loop
@@ -136,7 +134,6 @@ scan-with-spec =
     loop-holds
     length-by-requires
     enum-known-bytes
-    enum-told
     returns
     add-leaders-at
     leaders-at-requires

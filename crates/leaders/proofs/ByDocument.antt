@@ -1,0 +1,108 @@
+-- Any rule leads as document 01's does where it gives a leader, and where it measures alike what document 01's scan reaches.
+-- Assumes nothing.
+use Prim.Native.Nat.{ℕ, zero, suc, _+_, _<_}
+use native.Mathlib.Omega.{arith}
+use mathlib.Core.Path.{_≡_, refl, _∙_, sym, ap}
+use mathlib.Core.List.{List, _++_}
+use lib.ListN.{length}
+use borrow.Author.Tests.{lt-ltb}
+use Rattle.bytecode.specs.Length.{documentLength}
+use Rattle.bytecode.specs.Rule.{LengthRule, document-rule}
+use Rattle.bytecode.specs.declared.Measure.{Measure}
+use Rattle.bytecode.specs.declared.Measure.the-variants.{Length}
+use Rattle.greatest.specs.Greatest.{greatest}
+use Rattle.leader.specs.Scan.{Instructions, instruction, scanFrom, instructions, scanCount, leadersOf, answered, blockLeader}
+use Rattle.leader.specs.declared.Scan.{Scan}
+use Rattle.leader.specs.declared.Scan.the-variants.{Leader}
+use Rattle.leader.proofs.Scanning.{Turn, at-end, without, with-length, turn, scan-stops, scan-ends}
+use Rattle.leaders.specs.Leader.{Arrived, start, next, Reached, LedByDocument}
+use Rattle.leaders.proofs.Declared.{has-length}
+
+-- the answer of a scan that has these instructions
+abbrev answerTo : List ℕ → List ℕ → ℕ → Instructions → Scan
+answerTo extra code fault scanned = answered scanned (greatest fault (extra ++ leadersOf code scanned)) (scanCount scanned)
+
+-- an instruction with a length, seen from the rest
+goes-on :
+    (measure : List ℕ → ℕ → Measure) (code : List ℕ) (k pc n : ℕ) → pc < length code → measure code pc ≡ Length n →
+    scanFrom measure code (suc k) pc ≡ instruction pc n (scanFrom measure code k (pc + n))
+unfolding scanFrom
+goes-on measure code k pc n inside e = simp (lt-ltb _ _ inside, e)
+
+module _ (rule : LengthRule) (code : List ℕ) where
+  abbrev given : ℕ → ℕ → Instructions
+  given = scanFrom (rule .measure) code
+
+  abbrev documented : ℕ → ℕ → Instructions
+  documented = scanFrom documentLength code
+
+  -- ---- where the rule measures alike what document 01's scan reaches
+
+  module _ (alike : (pc : ℕ) → Reached document-rule code pc → rule .measure code pc ≡ documentLength code pc) where
+    scans-alike : (k : ℕ) {count pc : ℕ} → Arrived document-rule code count pc → given k pc ≡ documented k pc
+    unfolding scanFrom
+    scans-alike zero arrived = refl
+    scans-alike (suc k) {count} {pc} arrived = by-turn (turn documentLength code pc k) (λ n. scans-alike k {pc = pc + n})
+      where
+        by-turn :
+            {found : Instructions} → Turn documentLength code pc k found →
+            ((n : ℕ) → Arrived document-rule code (suc count) (pc + n) → given k (pc + n) ≡ documented k (pc + n)) →
+            given (suc k) pc ≡ found
+        by-turn (at-end here) rest = scan-ends (rule .measure) code pc (suc k) here
+        by-turn (without inside none) rest =
+            scan-stops (rule .measure) code pc (suc k) (omega arith) inside (λ n e. none n (rule .documented code pc n e))
+        by-turn (with-length {n = n} inside measured) rest =
+            let here : Reached document-rule code pc = record { count = count; arrived = arrived; inside = inside } in
+            goes-on (rule .measure) code k pc n inside (alike pc here ∙ measured)
+            ∙ ap (instruction pc n) (rest n (next arrived inside measured))
+
+  -- ---- where it gives a leader
+
+  module _ (best total leader count : ℕ) where
+    led-alike : (k pc : ℕ) → answered (given k pc) best total ≡ Leader leader count → given k pc ≡ documented k pc
+    unfolding scanFrom answered
+    led-alike zero pc e = refl
+    led-alike (suc k) pc e = by-turn (turn (rule .measure) code pc k) e (λ n. led-alike k (pc + n))
+      where
+        by-turn :
+            {found : Instructions} → Turn (rule .measure) code pc k found → answered found best total ≡ Leader leader count →
+            ((n : ℕ) → answered (given k (pc + n)) best total ≡ Leader leader count → given k (pc + n) ≡ documented k (pc + n)) →
+            found ≡ documented (suc k) pc
+        by-turn (at-end here) e rest = sym (scan-ends documentLength code pc (suc k) here)
+        by-turn (without inside none) e rest = let z : _≡_ {A = ℕ} 0 1 = cc in absurd (omega arith)
+        by-turn (with-length {n = n} inside measured) e rest =
+            ap (instruction pc n) (rest n e)
+            ∙ sym (goes-on documentLength code k pc n inside (rule .documented code pc n measured))
+
+    -- each instruction that document 01's scan reaches has been measured
+    arrived-alike :
+        answered (instructions (rule .measure) code) best total ≡ Leader leader count →
+        {turns pc : ℕ} → Arrived document-rule code turns pc → Arrived rule code turns pc
+    arrived-alike e start = start
+    arrived-alike e (next {count = turns} {pc = pc} {n = n} before inside measured) =
+        let here = arrived-alike e before in
+        let long = has-length rule code best total leader count (record { count = turns; arrived = here; inside = inside }) e in
+        let same : Length (long .0) ≡ Length n = sym (rule .documented code pc (long .0) (long .1)) ∙ measured in
+        next here inside (long .1 ∙ same)
+
+-- ---- both
+
+pub led-by-document : LedByDocument
+unfolding blockLeader instructions
+led-by-document =
+    record {
+      sameLengths = λ rule extra code fault alike.
+          ap (answerTo extra code fault) (scans-alike rule code alike (length code) start);
+      sameLeader = λ rule extra code fault leader count e.
+          let scanned = scanFrom (rule .measure) code (length code) 0 in
+          let best = greatest fault (extra ++ leadersOf code scanned) in
+          ap (answerTo extra code fault) (sym (led-alike rule code best (scanCount scanned) leader count (length code) 0 e)) ∙ e;
+      sameReach = λ rule extra code fault leader count e pc reached.
+          let scanned = scanFrom (rule .measure) code (length code) 0 in
+          let best = greatest fault (extra ++ leadersOf code scanned) in
+          record {
+            count = reached .count;
+            arrived = arrived-alike rule code best (scanCount scanned) leader count e (reached .arrived);
+            inside = reached .inside;
+          };
+    }
