@@ -37,7 +37,11 @@ typedef struct {
 korsepal_report_result korsepal_report(const uint8_t *bytes, size_t bytes_count, uint64_t *stack, size_t stack_count,
                                        uint8_t *output, size_t output_count);
 
-/* The length of the instruction at an index: status 0 and the length, or 1 where it has none. */
+/* The length of the instruction at an index.
+ * status 0: it has a length
+ * status 1: it is cut; there is no byte at the index, or the instruction would pass the end of the code
+ * status 2: the byte is reserved, 202 to 255; no instruction has it as its opcode
+ * A caller that tests for 1 to know that there is no length must test for other than 0: what is 2 now was a length of 1. */
 typedef struct {
     uint32_t status;
     uint64_t length;
@@ -45,8 +49,8 @@ typedef struct {
 
 korsepal_length_result korsepal_instruction_length(const uint8_t *code, size_t code_count, uint64_t pc);
 
-/* The greatest leader at or below a fault: found 1 and the leader, or 0 where some instruction has no length. scan counts the
- * instructions that were measured. */
+/* The greatest leader at or below a fault: found 1 and the leader, or 0 where some instruction has no length, be it cut or
+ * reserved. scan counts the instructions that were measured. */
 typedef struct {
     uint32_t found;
     uint64_t scan;

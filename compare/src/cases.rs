@@ -1,6 +1,6 @@
 //! One case on both sides: report, leader, walk, names and lengths.
 use crate::book::{Book, Column};
-use crate::differences::{scan, table, within_bounds, Listed, Table};
+use crate::differences::{length, measured, scan, table, Listed, Table};
 use crate::layout::{self, Parts, Record, Wrong};
 use crate::random::Random;
 use crate::room::Lender;
@@ -131,13 +131,14 @@ impl Run {
             Answer::Message { .. } => Column::Action,
             _ => Column::NoMessage,
         });
-        // Where D6 holds beside others, another message is counted to it, and a panic to them.
-        let differs = facts.wrapped_differs && !facts.parenthesis();
+        // Where D6 or D7 holds beside others, another message is counted to it, and a panic to them.
+        let differs = facts.wrapped_differs && facts.own_rules();
         let listed = [
             (facts.falling && !facts.wide, Listed::FallingTable, checked_panics, differs),
             (facts.wide, Listed::WideTable, checked_panics, differs),
             (facts.long_signature, Listed::SlotCounter, checked_panics, differs),
             (facts.parenthesis(), Listed::FirstParenthesis, false, facts.wrapped_differs),
+            (facts.reserved, Listed::ReservedByte, false, facts.wrapped_differs),
         ];
         for (holds, difference, panics, differs) in listed {
             if holds {
@@ -204,10 +205,11 @@ impl Run {
     fn leader(&mut self, bytes: &[u8], parts: &Parts, facts: &Facts, fault: usize) -> bool {
         let greatest = usize::try_from(i64::MAX).expect("a usize of 64 bits");
         let scan = scan(&parts.code);
-        let leader = Wrapped::leader(&scan.code, fault.min(greatest));
-        let theirs = Leader { leader: leader.map(|leader| leader as u64), scan: facts.scan as u64 };
+        let led = scan.leader(fault.min(greatest));
+        let theirs = Leader { leader: led.map(|leader| leader as u64), scan: facts.scan as u64 };
         let ours = korsepal::block_leader(&parts.code, fault as u64);
         self.book.expect(bytes, "leader and scan count", ours, theirs);
+        let leader = Wrapped::leader(&scan.code, fault.min(greatest));
         let checked = quietly(|| Checked::leader(&parts.code, fault));
         let panics = checked.is_none();
         if matches!(checked, Some(Some(target)) if target > greatest) {
@@ -289,17 +291,13 @@ impl Run {
     /// The length at every index of the code, and past its end.
     fn lengths(&mut self, bytes: &[u8], code: &[u8]) {
         for pc in 0..code.len() + 1 {
-            let table = table(code, pc);
-            let wrapped = match table {
-                Table::Plain | Table::Falling => Wrapped::length(code, pc),
-                _ => Wrapped::length(&within_bounds(code, pc, table), pc),
-            };
-            let ours = korsepal::instruction_length(code, pc as u64).map(|length| length as usize);
-            if ours != wrapped {
-                self.book.expect(bytes, &format!("length at {pc}"), ours, wrapped);
+            let (ours, theirs) = (korsepal::measure(code, pc as u64), measured(code, pc));
+            if ours != theirs {
+                self.book.expect(bytes, &format!("length at {pc}"), ours, theirs);
             }
             let checked = quietly(|| Checked::length(code, pc));
-            self.book.expect_checked(bytes, "length by the checked build", checked, wrapped, table != Table::Plain);
+            let may_panic = table(code, pc) != Table::Plain;
+            self.book.expect_checked(bytes, "length by the checked build", checked, length(code, pc), may_panic);
         }
         self.book.add(Column::Lengths, code.len() as u64 + 1);
     }

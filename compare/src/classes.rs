@@ -1,9 +1,15 @@
 //! Real class files: every dereferencing instruction of every method becomes a case.
 use crate::cases::Run;
 use crate::classfile::{self, ClassFile, Members, Method};
+use crate::layout;
+use crate::make::damaged_everywhere;
 use crate::sides::{Build, Wrapped};
 use std::fs;
 use std::path::{Path, PathBuf};
+
+/// Of the methods with no more bytes of code than this, one in so many is compared with each of its bytes damaged.
+const DAMAGED_CODE: usize = 300;
+const DAMAGED_METHODS: usize = 100;
 
 /// The class files below a folder, in the order of their paths; or the one file named.
 fn class_files(folder: &Path) -> std::io::Result<Vec<PathBuf>> {
@@ -71,7 +77,19 @@ fn compare_method(run: &mut Run, seen: &mut Seen, class: &ClassFile, method: &Me
         if let Some(bytes) = classfile::case_at(class, method, fault, members).bytes() {
             run.book.case("class files");
             run.fault_of_method(&bytes, place == 0);
+            if place == 0 && method.code.len() <= DAMAGED_CODE && run.random.once_in(DAMAGED_METHODS) {
+                compare_damaged(run, &bytes);
+            }
         }
+    }
+}
+
+/// A case of a method with one byte of its code replaced by a reserved one, at every place.
+fn compare_damaged(run: &mut Run, bytes: &[u8]) {
+    let parts = layout::read(bytes).expect("it keeps the layout");
+    for damaged in damaged_everywhere(&parts) {
+        run.book.case("damaged class files");
+        run.case(&damaged);
     }
 }
 

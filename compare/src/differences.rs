@@ -2,6 +2,7 @@
 //! for it, so that the rest of the input is compared all the same.
 use crate::layout::Parts;
 use crate::sides::{Build, Holding, Wrapped};
+use korsepal::Measure;
 use std::borrow::Cow;
 
 /// The listed differences, in the table's order.
@@ -21,10 +22,12 @@ pub enum Listed {
     FirstParenthesis,
     /// A return alone: the same, and so of parameters that can't be read.
     ReturnAlone,
+    /// The scan meets a reserved byte: the Rust counts it as an instruction.
+    ReservedByte,
 }
 
 /// Their numbers and names.
-pub const LISTED: [(&str, &str); 7] = [
+pub const LISTED: [(&str, &str); 8] = [
     ("D1", "tableswitch with high < low"),
     ("D2", "tableswitch with high - low outside 32 bits"),
     ("D3", "parameters' slots above 65,535"),
@@ -32,9 +35,13 @@ pub const LISTED: [(&str, &str); 7] = [
     ("D5", "leader alone, fault at or above 2^63, target below 0"),
     ("D6", "method of a case with a `)` in a parameter's name"),
     ("D6", "return alone, behind such parameters or unreadable ones"),
+    ("D7", "scan that meets a reserved byte, 202 to 255"),
 ];
 
 const TABLESWITCH: u8 = 0xaa;
+
+/// The first byte that is no opcode.
+const RESERVED: u8 = 202;
 
 /// What a `tableswitch` says of its entries.
 #[derive(Clone, Copy, PartialEq)]
@@ -75,7 +82,7 @@ pub fn table(code: &[u8], pc: usize) -> Table {
 }
 
 /// A code in which the table at an index has as many entries by a difference that stays within 32 bits.
-pub fn within_bounds(code: &[u8], pc: usize, table: Table) -> Vec<u8> {
+fn within_bounds(code: &[u8], pc: usize, table: Table) -> Vec<u8> {
     let mut code = code.to_vec();
     let bounds: [i32; 2] = if table == Table::TooHigh { [0, i32::MAX] } else { [1, 0] };
     let at = bounds_at(pc);
@@ -84,10 +91,28 @@ pub fn within_bounds(code: &[u8], pc: usize, table: Table) -> Vec<u8> {
     code
 }
 
-/// The chain of the Rust's lengths from 0.
+/// The Rust's length at an index, with a table brought within 32 bits.
+pub fn length(code: &[u8], pc: usize) -> Option<usize> {
+    match table(code, pc) {
+        Table::Plain | Table::Falling => Wrapped::length(code, pc),
+        outside => Wrapped::length(&within_bounds(code, pc, outside), pc),
+    }
+}
+
+/// What measuring at an index answers by the rules: that a byte is reserved, else by the Rust's length.
+pub fn measured(code: &[u8], pc: usize) -> Measure {
+    match code.get(pc) {
+        Some(RESERVED..) => Measure::Reserved,
+        _ => length(code, pc).map_or(Measure::Cut, |length| Measure::Length(length as u64)),
+    }
+}
+
+/// The chain of the Rust's lengths from 0, to the end or to an instruction that it can't measure.
 pub struct Scan<'a> {
-    /// The instructions measured.
+    /// The instructions before the first reserved byte.
     pub count: usize,
+    /// A reserved byte was met.
+    pub reserved: bool,
     /// A table met on the way has high < low.
     pub falling: bool,
     /// A table met on the way leaves 32 bits.
@@ -97,6 +122,14 @@ pub struct Scan<'a> {
 }
 
 impl Scan<'_> {
+    /// The leader by the rules: the Rust's, and none behind a reserved byte.
+    pub fn leader(&self, fault: usize) -> Option<usize> {
+        if self.reserved {
+            return None;
+        }
+        Wrapped::leader(&self.code, fault)
+    }
+
     /// Whether a panic of the checked build is listed.
     pub fn may_panic(&self) -> bool {
         self.falling || self.wide
@@ -104,7 +137,7 @@ impl Scan<'_> {
 }
 
 pub fn scan(code: &[u8]) -> Scan<'_> {
-    let mut scan = Scan { count: 0, falling: false, wide: false, code: Cow::Borrowed(code) };
+    let mut scan = Scan { count: 0, reserved: false, falling: false, wide: false, code: Cow::Borrowed(code) };
     let mut pc = 0;
     while pc < code.len() {
         match table(code, pc) {
@@ -116,7 +149,8 @@ pub fn scan(code: &[u8]) -> Scan<'_> {
             }
         }
         let Some(length) = Wrapped::length(&scan.code, pc) else { break };
-        scan.count += 1;
+        scan.reserved |= code[pc] >= RESERVED;
+        scan.count += usize::from(!scan.reserved);
         pc += length;
     }
     scan

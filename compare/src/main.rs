@@ -21,8 +21,8 @@ use std::path::Path;
 
 /// What the files of rows open with.
 const SAMPLE: &str = "\
-# A sample of cases and descriptors, of which no listed difference but D6 holds. The answers are the Rust's own, for D6 with its
-# stand-in (compare/README.md), written by compare/sample.
+# A sample of cases and descriptors, of which no listed difference but D6 and D7 holds. The answers are the Rust's own, for D6 and D7
+# with their stand-ins (compare/README.md), written by compare/sample.
 #
 # report | case | count of cells lent | count of bytes lent => the line
 # descriptor | text => the parameters and their slots, the return's slots, and the slots as a field
@@ -44,8 +44,9 @@ const SHORT: &str = "\
 /// How many inputs go by between two progress lines.
 const STEP: u64 = 2_000;
 
-/// To so many made inputs there comes one with a `)` put into names.
+/// To so many made inputs there comes one with a `)` put into names, and to so many made cases one with a damaged byte.
 const PARENTHESISED: u64 = 10;
+const DAMAGED: u64 = 5;
 
 /// Compares so many inputs, with a progress line now and then.
 fn each(run: &mut Run, count: u64, mut one: impl FnMut(&mut Run)) {
@@ -57,13 +58,14 @@ fn each(run: &mut Run, count: u64, mut one: impl FnMut(&mut Run)) {
     }
 }
 
-/// The whole comparison: so many cases, so many made descriptors, a tenth more of each with a `)` put into names, and every short
-/// descriptor as the count allows.
+/// The whole comparison: so many cases, so many made descriptors, a tenth more of each with a `)` put into names, a fifth more cases with
+/// a damaged byte, and every short descriptor as the count allows.
 fn compare(seed: u64, count: u64) -> Run {
     let mut run = Run::new(seed);
     rows::compare(&mut run);
     cases(&mut run, seed, count);
     parenthesised_cases(&mut run, seed, count / PARENTHESISED);
+    damaged_cases(&mut run, seed, count / DAMAGED);
     rows::compare_descriptors(&mut run);
     made_descriptors(&mut run, seed, count);
     parenthesised_descriptors(&mut run, seed, count / PARENTHESISED);
@@ -89,6 +91,20 @@ fn parenthesised_cases(run: &mut Run, seed: u64, count: u64) {
     each(run, count, |run| {
         run.book.case("parenthesis in a name");
         run.case(&make::parenthesised(&mut random));
+    });
+}
+
+/// Cases of whole methods with one byte of the code replaced by a reserved one, at every place.
+fn damaged_cases(run: &mut Run, seed: u64, count: u64) {
+    let mut random = Random::new(seed ^ 0x6461_6d61);
+    let mut left = Vec::new();
+    each(run, count, |run| {
+        let bytes = left.pop().unwrap_or_else(|| {
+            left = make::damaged_uploads(&mut random);
+            left.pop().expect("no code that was made is empty")
+        });
+        run.book.case("damaged upload");
+        run.case(&bytes);
     });
 }
 
@@ -148,9 +164,17 @@ fn end(run: &Run) {
     }
 }
 
-/// Writes the files of rows, and says whether the library answers as the Rust does.
-fn write_rows(folder: &str, seed: u64) {
-    let files = [("sample", SAMPLE, sample::sample(seed)), ("short", SHORT, sample::short())];
+/// The rows of the stored sample, answered anew.
+fn renewed_sample(folder: &str) -> Vec<sample::Row> {
+    let path = format!("{folder}/sample");
+    let file = or_end(std::fs::read(&path), &path);
+    or_end(sample::renewed(&file).ok_or(std::io::ErrorKind::InvalidData.into()), &path)
+}
+
+/// Writes the files of rows, and says whether the library answers as the Rust does. A seed draws another sample.
+fn write_rows(folder: &str, seed: Option<u64>) {
+    let sample = seed.map_or_else(|| renewed_sample(folder), sample::sample);
+    let files = [("sample", SAMPLE, sample), ("short", SHORT, sample::short())];
     for (name, remark, rows) in &files {
         let path = format!("{folder}/{name}");
         or_end(std::fs::write(&path, sample::file(remark, rows)), &path);
@@ -179,7 +203,7 @@ fn main() {
             end(&run);
         }
         Some("starts") => arguments[1..].iter().for_each(|file| or_end(classes::print_starts(Path::new(file)), file)),
-        Some("sample") => write_rows(path(), number(2, sample::SEED)),
+        Some("sample") => write_rows(path(), arguments.get(2).map(|_| number(2, 0))),
         _ => usage(),
     }
 }

@@ -1,9 +1,11 @@
 //! Inputs: cases with structure, damaged ones, cases at the edges, and random bytes.
 use crate::damage::damage;
 use crate::descriptors::{any_method, any_type, good_method, parenthesise};
+use crate::differences::measured;
 use crate::layout::{lay_out, Member, Parts, Record};
 use crate::random::Random;
 use crate::sides::{Build, Holding, Wrapped};
+use korsepal::Measure;
 
 /// The kinds of cases, and how many of twenty are of each.
 pub const KINDS: [(&str, usize, fn(&mut Random) -> Vec<u8>); 5] = [
@@ -436,6 +438,39 @@ pub fn parenthesised(random: &mut Random) -> Vec<u8> {
         parenthesise(random, &mut member.descriptor);
     }
     lay_out(&parts)
+}
+
+/// A method that is measured to its end, and each of its places with three reserved bytes in turn: uploads with one byte damaged.
+pub fn damaged_uploads(random: &mut Random) -> Vec<Vec<u8>> {
+    loop {
+        let parts = parts(random);
+        if is_whole(&parts.code) {
+            return damaged_everywhere(&parts);
+        }
+    }
+}
+
+/// Whether a code is measured to its end.
+fn is_whole(code: &[u8]) -> bool {
+    let mut at = 0;
+    while let Measure::Length(length) = measured(code, at) {
+        at += length as usize;
+    }
+    at == code.len()
+}
+
+/// The cases with one byte of the code replaced by a reserved one.
+pub fn damaged_everywhere(parts: &Parts) -> Vec<Vec<u8>> {
+    let mut damaged = parts.clone();
+    let mut cases = Vec::new();
+    for place in 0..parts.code.len() {
+        for byte in [0xca, 0xfe, 0xff] {
+            damaged.code[place] = byte;
+            cases.push(lay_out(&damaged));
+        }
+        damaged.code[place] = parts.code[place];
+    }
+    cases
 }
 
 /// Some loads, a static call with its arguments, and a dereference that reaches one of the loads by the slots that the call gives.

@@ -2,27 +2,32 @@
 //! inputs of the listed differences, with what each side says.
 use crate::cases::Run;
 use crate::descriptors::STRICT_WRAPPED;
-use crate::differences::return_slots;
+use crate::differences::{measured, return_slots};
 use crate::layout::{self, lay_out, Member, Parts, Record};
 use crate::rule::Facts;
 use crate::sample::line;
 use crate::sides::{quietly, Build, Checked, Held, Holding, Wrapped};
+use korsepal::Measure;
 
 /// Default 0, low 0, high 1 and two entries.
 const TABLE: [u8; 20] = [0, 0, 0, 0, 0, 0, 0, 0, 0, 0, 0, 1, 0, 0, 0, 0, 0, 0, 0, 0];
 
-/// A code, an index and the length there.
-fn length_rows() -> Vec<(Vec<u8>, usize, Option<usize>)> {
+/// A code, an index and what measuring there answers.
+fn length_rows() -> Vec<(Vec<u8>, usize, Measure)> {
     vec![
-        (vec![0xc4, 0x84, 0, 1, 0, 1], 0, Some(6)),
-        (vec![0xc4, 0x15, 0, 1], 0, Some(4)),
-        (vec![0xc4], 0, None),
-        ([&[0xaa, 0, 0, 0][..], &TABLE].concat(), 0, Some(24)),
-        ([&[0, 0, 0, 0xaa][..], &TABLE].concat(), 3, Some(21)),
-        (vec![0xab, 0, 0, 0, 0, 0, 0, 0, 0, 0, 0, 0], 0, Some(12)),
-        (vec![0xab, 0, 0, 0, 0, 0, 0, 0, 255, 255, 255, 255], 0, Some(12)),
-        (vec![0xca], 0, Some(1)),
-        (vec![0xb6, 0], 0, None),
+        (vec![0xc4, 0x84, 0, 1, 0, 1], 0, Measure::Length(6)),
+        (vec![0xc4, 0x15, 0, 1], 0, Measure::Length(4)),
+        (vec![0xc4], 0, Measure::Cut),
+        ([&[0xaa, 0, 0, 0][..], &TABLE].concat(), 0, Measure::Length(24)),
+        ([&[0, 0, 0, 0xaa][..], &TABLE].concat(), 3, Measure::Length(21)),
+        (vec![0xab, 0, 0, 0, 0, 0, 0, 0, 0, 0, 0, 0], 0, Measure::Length(12)),
+        (vec![0xab, 0, 0, 0, 0, 0, 0, 0, 255, 255, 255, 255], 0, Measure::Length(12)),
+        (vec![0xb6, 0], 0, Measure::Cut),
+        (vec![0xc9, 0, 0, 0, 0], 0, Measure::Length(5)),
+        (vec![0xca], 0, Measure::Reserved),
+        (vec![0xff], 0, Measure::Reserved),
+        (vec![0xca], 1, Measure::Cut),
+        (vec![0xc4, 0xca, 0, 1], 0, Measure::Length(4)),
     ]
 }
 
@@ -38,7 +43,7 @@ fn example() -> Parts {
 }
 
 /// The length of an array behind a static call with a descriptor, which local 1 was loaded for.
-fn measured(descriptor: &[u8]) -> Parts {
+fn behind_a_call(descriptor: &[u8]) -> Parts {
     let called = Member::method(1, b"a", b"m", descriptor);
     Parts { members: vec![called], ..bare(&[0x2a, 0x2b, 0xb8, 0, 1, 0xbe], 5, b"") }
 }
@@ -70,9 +75,13 @@ fn case_rows() -> Vec<(Parts, &'static str)> {
         (bare(&[0x2a, 0xbe], 1, b"m:)I"), "0 2 2 1 ~ because \"<parameter1>\" is null"),
         (bare(&[0x2a, 0xbe], 1, b"m:JI"), "0 2 2 1 ~ because \"<parameter1>\" is null"),
         (bare(&[0x2b, 0xbe], 1, b"m:(IV"), "0 2 2 1 ~ because \"<local1>\" is null"),
-        (measured(b"(La)V;)J"), "0 1 4 3 ~"),
-        (measured(b"(La)J;)V"), "0 2 4 3 ~ because \"<local0>\" is null"),
-        (measured(b"(La)V;"), "0 1 4 2 ~"),
+        (behind_a_call(b"(La)V;)J"), "0 1 4 3 ~"),
+        (behind_a_call(b"(La)J;)V"), "0 2 4 3 ~ because \"<local0>\" is null"),
+        (behind_a_call(b"(La)V;"), "0 1 4 2 ~"),
+        (bare(&[0x2a, 0xbe, 0xca], 1, b""), "0 1 2 0 ~"),
+        (bare(&[0xca, 0x2a, 0xbe], 2, b""), "0 1 0 0 ~"),
+        (bare(&[0x2a, 0x10, 0xca, 0x57, 0xbe], 4, b""), "0 2 4 3 ~ because \"<local0>\" is null"),
+        (bare(&[0x2a, 0xca], 1, b""), "1 0 0 0"),
     ]
 }
 
@@ -147,7 +156,7 @@ pub fn compare(run: &mut Run) {
     for (code, pc, expected) in length_rows() {
         run.book.case("fixed rows");
         run.case(&lay_out(&bare(&code, pc as u16, b"")));
-        run.book.expect(&code, "row", expected, Wrapped::length(&code, pc));
+        run.book.expect(&code, "row", expected, measured(&code, pc));
     }
 }
 
@@ -188,6 +197,7 @@ pub fn print_listed() {
     print_slots("D3 local 1, static, :( and 32,767 J and IIII", [b":(", &b"J".repeat(32_767)[..], b"IIII"].concat());
     print_leader();
     print_returns();
+    print_reserved();
 }
 
 /// Tables whose bounds the Rust does not keep within 32 bits.
@@ -244,18 +254,31 @@ fn print_returns() {
     }
     for descriptor in ["(La)V;)J", "(La)J;)V", "(La)V;"] {
         let input = format!("2a 2b b8 00 01 be, fault 5, with the method {descriptor} at 1");
-        print_message(&input, &measured(descriptor.as_bytes()));
+        print_message("D6", &input, &behind_a_call(descriptor.as_bytes()));
     }
     let figure_eight = layout::read(include_bytes!("../../examples/figure_eight.case")).expect("it keeps the layout");
-    print_message("examples/figure_eight", &figure_eight);
+    print_message("D6", "examples/figure_eight", &figure_eight);
+}
+
+/// Reserved bytes, and messages of codes that have one.
+fn print_reserved() {
+    for code in [[0xca], [0xff]] {
+        let library = format!("{:?}", korsepal::measure(&code, 0));
+        let (checked, wrapped) = (quietly(|| Checked::length(&code, 0)), quietly(|| Wrapped::length(&code, 0)));
+        print_line(&format!("D7 length at 0: {:x}", code[0]), library, words(checked), words(wrapped));
+    }
+    print_message("D7", "2a be ca, fault 1", &bare(&[0x2a, 0xbe, 0xca], 1, b""));
+    print_message("D7", "ca 2a be, fault 2", &bare(&[0xca, 0x2a, 0xbe], 2, b""));
+    let damaged_upload = layout::read(include_bytes!("../../examples/damaged_upload.case")).expect("it keeps the layout");
+    print_message("D7", "examples/damaged_upload", &damaged_upload);
 }
 
 /// The message of a case, a line to a side.
-fn print_message(input: &str, parts: &Parts) {
+fn print_message(number: &str, input: &str, parts: &Parts) {
     let library = line(korsepal::report(&lay_out(parts), &mut [0; 16], &mut [0; 128]));
     let (checked, wrapped) = builds(parts);
     let fault = usize::from(parts.fault);
-    println!("D6 message: {input}");
+    println!("{number} message: {input}");
     println!("    library  {}", String::from_utf8_lossy(&library));
     println!("    checked  {}", words(quietly(|| checked.message(fault))));
     println!("    wrapped  {}", words(quietly(|| wrapped.message(fault))));

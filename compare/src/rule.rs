@@ -110,6 +110,8 @@ pub struct Facts {
     /// A table of the scan has high < low, or leaves 32 bits.
     pub falling: bool,
     pub wide: bool,
+    /// The scan meets a reserved byte.
+    pub reserved: bool,
     /// The slots of the parameters pass 65,535.
     pub long_signature: bool,
     /// The wrapped build's own message, and whether it is another than that of the rules.
@@ -150,9 +152,9 @@ impl Facts {
         let whole = if cut.is_some() { Held::new(parts, &parts.signature) } else { held };
         let checked = Checked::over(parts, &whole);
         let scan = scan(code);
-        let leader = Wrapped::leader(&scan.code, fault);
+        let leader = scan.leader(fault);
         let walker = plain.as_ref().unwrap_or(&wrapped);
-        let stands_in = scan.wide || plain.is_some();
+        let stands_in = scan.wide || scan.reserved || plain.is_some();
         let message = if stands_in { composed(&wrapped, walker, code, leader, fault) } else { wrapped.message(fault) };
         let may_differ = stands_in || cut.is_some();
         let own_message = if may_differ { Wrapped::over(parts, &whole).message(fault) } else { message.clone() };
@@ -166,6 +168,7 @@ impl Facts {
             holding,
             falling: scan.falling,
             wide: scan.wide,
+            reserved: scan.reserved,
             long_signature: cut.is_some(),
             wrapped_differs: own_message != message,
             own_message: own_message.map(|message| holding.release(message)),
@@ -190,13 +193,18 @@ impl Facts {
         self.plain.as_ref().unwrap_or(&self.wrapped)
     }
 
+    /// Whether the Rust has the same rules: no request of document 02 changed them for such a case.
+    pub fn own_rules(&self) -> bool {
+        !self.parenthesis() && !self.reserved
+    }
+
     /// The message that the checked build must give where it does not panic.
     pub fn checked_expected(&self) -> Option<Vec<u8>> {
-        let expected = if self.parenthesis() { &self.own_message } else { &self.message };
+        let expected = if self.own_rules() { &self.message } else { &self.own_message };
         expected.clone()
     }
 
-    /// Whether some listed difference but that of the parenthesis holds of the case.
+    /// Whether some listed difference holds of the case but those that document 02 asked for.
     pub fn listed(&self) -> bool {
         self.falling || self.wide || self.long_signature || self.holding == Holding::ByteByByte
     }

@@ -1,5 +1,5 @@
 //! Rows of data with the Rust's own answers, for the program `replay`, which runs where the Rust is not at hand: a sample of cases
-//! and descriptors of which no listed difference but D6 holds, and every short text over eight letters for the strict readers.
+//! and descriptors of which no listed difference but D6 and D7 holds, and every short text over eight letters for the strict readers.
 //! crates/replay/README.md says how rows are written.
 use crate::descriptors::{made, Strict, STRICT_WRAPPED};
 use crate::differences::return_slots;
@@ -10,9 +10,6 @@ use crate::rule::Facts;
 use crate::sides::{Build, Holding, Wrapped};
 use korsepal::{Answer, Parameters};
 use std::collections::HashMap;
-
-/// The seed of the stored sample.
-pub const SEED: u64 = 2_026;
 
 /// How many cases there are of each sort: a message with its cause, an action alone, then the answers 1 to 4.
 const CASES: [usize; 6] = [1_000, 780, 560, 520, 90, 50];
@@ -73,6 +70,15 @@ fn spelled(bytes: &[u8]) -> String {
     bytes.chunk_by(|a, b| plain(a) && plain(b)).map(item).collect::<Vec<_>>().join(" ")
 }
 
+/// The bytes that a row has so.
+fn unspelled(text: &str) -> Option<Vec<u8>> {
+    let item = |item: &str| match item.strip_prefix('"') {
+        Some(rest) => rest.strip_suffix('"').map(|text| text.as_bytes().to_vec()),
+        None => u8::from_str_radix(item, 16).ok().map(|byte| vec![byte]),
+    };
+    Some(text.split(' ').map(item).collect::<Option<Vec<_>>>()?.concat())
+}
+
 /// The line that the program `npe` would print with these spaces.
 pub fn line(answer: Answer) -> Vec<u8> {
     match answer {
@@ -85,7 +91,7 @@ pub fn line(answer: Answer) -> Vec<u8> {
     }
 }
 
-/// The row of a case and its sort; `None` where a listed difference but D6 holds of it.
+/// The row of a case and its sort; `None` where a listed difference but D6 and D7 holds of it.
 fn case(bytes: &[u8]) -> Option<(Row, usize)> {
     let (answer, sort) = match layout::read(bytes) {
         Err(Wrong::TooLong) => return None,
@@ -215,7 +221,27 @@ fn descriptors(random: &mut Random, row_of: fn(&str) -> Row) -> Vec<Row> {
     rows
 }
 
-/// The rows of the sample.
+/// The inputs of a stored sample, answered anew; `None` where a row can't be read.
+pub fn renewed(file: &[u8]) -> Option<Vec<Row>> {
+    let rows = file.split(|&byte| byte == b'\n').filter(|line| !line.is_empty() && line[0] != b'#');
+    rows.map(renewed_row).collect()
+}
+
+fn renewed_row(line: &[u8]) -> Option<Row> {
+    let end = line.windows(4).position(|four| four == b" => ")?;
+    let mut fields = std::str::from_utf8(&line[..end]).ok()?.split(" | ");
+    let (kind, input) = (fields.next()?, unspelled(fields.next()?)?);
+    let row_of = match kind {
+        "report" => return case(&input).map(|(row, _)| row),
+        "descriptor" => lenient,
+        "type" => strict_type,
+        "method" => strict_method,
+        _ => return None,
+    };
+    std::str::from_utf8(&input).ok().map(row_of)
+}
+
+/// The rows of a new sample.
 pub fn sample(seed: u64) -> Vec<Row> {
     let mut random = Random::new(seed);
     let mut rows = cases(&mut random);

@@ -66,17 +66,41 @@ pub fn report<'a>(case: &[u8], stack: &mut [u64], output: &'a mut [u8]) -> Answe
     }
 }
 
-/// The length of the instruction at an index, or `None` where it has none.
-pub fn instruction_length(code: &[u8], pc: u64) -> Option<u64> {
+/// What measuring the instruction at an index answers. Further reasons for having no length may come.
+#[derive(Clone, Copy, Debug, PartialEq, Eq)]
+#[non_exhaustive]
+pub enum Measure {
+    /// Its bytes, the opcode among them.
+    Length(u64),
+    /// There is no byte at the index, or the instruction would pass the end of the code.
+    Cut,
+    /// The byte is reserved, 202 to 255: no instruction has it as its opcode.
+    Reserved,
+}
+
+/// Measures the instruction at an index.
+pub fn measure(code: &[u8], pc: u64) -> Measure {
     // SAFETY: as in `report`.
     let r = unsafe { ffi::korsepal_instruction_length(code.as_ptr(), code.len(), pc) };
-    (r.status == 0).then_some(r.length)
+    match r.status {
+        0 => Measure::Length(r.length),
+        1 => Measure::Cut,
+        _ => Measure::Reserved,
+    }
+}
+
+/// The length of the instruction at an index, or `None` where it has none; `measure` says why.
+pub fn instruction_length(code: &[u8], pc: u64) -> Option<u64> {
+    match measure(code, pc) {
+        Measure::Length(length) => Some(length),
+        Measure::Cut | Measure::Reserved => None,
+    }
 }
 
 /// What the scan of a code answers.
 #[derive(Clone, Copy, Debug, PartialEq, Eq)]
 pub struct Leader {
-    /// The greatest leader at or below the fault; `None` where some instruction has no length.
+    /// The greatest leader at or below the fault; `None` where some instruction has no length, be it cut or reserved.
     pub leader: Option<u64>,
     /// The instructions that were measured.
     pub scan: u64,

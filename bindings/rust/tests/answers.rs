@@ -113,6 +113,18 @@ fn lengths_and_leaders() {
 }
 
 #[test]
+fn reserved_bytes() {
+    assert_eq!(measure(&[0x10, 0xca], 0), Measure::Length(2));
+    assert_eq!(measure(&[0xc9], 0), Measure::Cut);
+    assert_eq!(measure(&[0xca], 1), Measure::Cut);
+    for byte in 0xca..=0xff {
+        assert_eq!(measure(&[byte], 0), Measure::Reserved);
+        assert_eq!(instruction_length(&[byte], 0), None);
+    }
+    assert_eq!(block_leader(&[0x2a, 0xbe, 0xca], 1), Leader { leader: None, scan: 2 });
+}
+
+#[test]
 fn walks() {
     let mut stack = [7; 4];
     assert_eq!(walk(EXAMPLE, 0, 1, &mut stack), Walk::Done { slots: &[1], count: 1 });

@@ -10,7 +10,7 @@ use Rattle.basics.specs.Ascii.{ascii}
 use Rattle.basics.proofs.Bytes.{all-below}
 use Rattle.basics.proofs.Every.{every}
 use Rattle.jvms.specs.Format.{formatOf}
-use Rattle.bytecode.specs.Length.{bytesOf, within, lengthOf}
+use Rattle.bytecode.specs.Length.{bytesOf, within, documentLength, lengthOf}
 use Rattle.fixed.specs.Fixed.{fixedLength}
 use Rattle.greatest.specs.Greatest.{upTo, greatest}
 use Rattle.leader.specs.Scan.{scanFrom, instructions, scanCount, leadersOf, answered, blockLeader}
@@ -44,7 +44,7 @@ use Rattle.evidence.specs.Constant.{reading, throwing, readingNull, blan
 pub small-cases : SmallCases
 unfolding reportOf reportedIn caseOf placesIn tablesAt textAt numberAt numberFrom runBy membersThen recordsThen partsOf
     saidOf decoded depthOf ruleOf actionOf blockLeader instructions scanFrom scanCount leadersOf leadersAt branchOf
-    answered greatest upTo lengthOf within bytesOf formatOf blockWalk completed completedFrom walk walkFrom step
+    answered greatest upTo lengthOf documentLength within bytesOf formatOf blockWalk completed completedFrom walk walkFrom step
     rowOf fixedLength slotFrom messageOf messageText actionText causeText localName recordsIn firstMatch
     signatureParameter firstFrom firstIn numberedName decimal digits isInstance over
 small-cases =

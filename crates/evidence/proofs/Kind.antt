@@ -114,23 +114,24 @@ kind-two = record { only = has-cause; always = is-two }
 
 -- ---- no other kind
 
+-- a message without a cause is the action
+pub plain : (p : Parts) (action : Action) → messageOf p action Other ≡ actionText (p .members) (p .memberCount) action
+unfolding messageOf messageText causeText
+plain p action = append-nil (actionText (p .members) (p .memberCount) action)
+
 module _ (p : Parts) (room : ℕ) (message : List ℕ) (kind scan block : ℕ) where
   abbrev Kinds : Type 0
   Kinds = ((kind ≡ 1) × ActionAlone p message) ⊎ (kind ≡ 2)
 
   module _ (action : Action) (depth : ℕ)
       (decodes : decoded (p .code) (p .members) (p .memberCount) (p .fault) ≡ Failed action depth) where
-    plain : messageOf p action Other ≡ actionText (p .members) (p .memberCount) action
-    unfolding messageOf messageText causeText
-    plain = append-nil (actionText (p .members) (p .memberCount) action)
-
     by-cause :
         (cause : Slot) (scanned count : ℕ) →
         said (messageOf p action cause) (kindOf cause) scanned count ≡ said message kind scan block → Kinds
     by-cause Other scanned count told =
         let one : kind ≡ 1 = cc in
         let same : message ≡ messageOf p action Other = cc in
-        inl (one, record { action = action; depth = depth; decodes = decodes; words = same ∙ plain })
+        inl (one, record { action = action; depth = depth; decodes = decodes; words = same ∙ plain p action })
     by-cause (Loaded load local) scanned count told = inr cc
 
     by-trace : (trace : Trace) → saidBy p action trace ≡ said message kind scan block → Kinds

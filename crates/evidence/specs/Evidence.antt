@@ -12,7 +12,7 @@ use Rattle.basics.specs.Bytes.{AreBytes}
 use Rattle.basics.specs.Member.{_∈_}
 use Rattle.jvms.specs.Branch.{landingsAt}
 use Rattle.jvms.specs.Machine.{Pool, State, target}
-use Rattle.bytecode.specs.Rule.{document-rule}
+use Rattle.bytecode.specs.Rule.{length-rule}
 use Rattle.leader.specs.declared.Scan.the-variants.{Leader}
 use Rattle.leaders.specs.Leader.{Reached}
 use Rattle.casefile.specs.Parts.{Parts, partsOf}
@@ -69,7 +69,7 @@ pub record Evidence (p : Parts) (pool : Pool) (message : List ℕ) (scan block :
   -- the block begins at its leader, and nothing that the scan knows lands between that and the fault
   pub leads : scanOf p ≡ Leader leader scan
   pub nothingLands :
-      (pc x : ℕ) → Reached document-rule (p .code) pc → x ∈ landingsAt (p .code) pc → leader < x → x ≤ p .fault → ⊥
+      (pc x : ℕ) → Reached length-rule (p .code) pc → x ∈ landingsAt (p .code) pc → leader < x → x ≤ p .fault → ⊥
   -- "from any entering stack, locals and opaque results", over any values
   pub proven :
       (Val : Type 0) (opaque : ℕ → ℕ → Val) (entering : List Val) (locals : ℕ → Val) →

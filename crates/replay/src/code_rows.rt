@@ -11,11 +11,12 @@ use told::told;
 use told::told_with;
 use walk::Walk;
 
-// length | what | code | index => the length, or none
+// length | what | code | index => the length, or none, and whether the byte is reserved
 fn length(code: &[u8], pc: usize) -> Told {
     match bytecode::instruction_length(code, pc) {
         Measure::Length(n) => told(0, n, 0, 0),
         Measure::NoLength => told(1, 0, 0, 0),
+        Measure::Reserved => told(2, 0, 0, 0),
     }
 }
 

@@ -18,7 +18,7 @@ use told::Told;
 ghost use Prim.Native.Nat.{_≤_};
 
 // The kinds of rows. The comments at the functions say what the fields are.
-fn kinds() -> [u8; 703] {
+fn kinds() -> [u8; 718] {
     *b"type xa |0 # |$;# |$\n\
       method xa |0 # |$;# |$\n\
       digest xab |#\n\
@@ -31,7 +31,7 @@ fn kinds() -> [u8; 703] {
       decimal abc |next #, $\n\
       static -xaybc |\"$\"\n\
       instance -xaybc |\"$\"\n\
-      length -xa |#;none\n\
+      length -xa |#;none;none, reserved\n\
       leader -xa |leader #, scan #;no length at #, scan #\n\
       members -dy |# members\n\
       walk -xabc |height #, count # |$;fails, count # |$;no room at # |$\n\

@@ -41,7 +41,7 @@ partsBy flags fault code signature members memberCount records recordCount =
       records = records;
     }
 
--- how a report scans: by document 01's lengths, with no leader but those that the code gives
+-- how a report scans: with no leader but those that the code gives
 abbrev pub scanOf : Parts → Scan
 scanOf p = blockLeader lengthOf [] (p .code) (p .fault)
 

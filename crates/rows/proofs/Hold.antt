@@ -4,7 +4,7 @@ use mathlib.Core.Path.{refl}
 use Rattle.basics.specs.Bytes.{u16At, u32At}
 use Rattle.jvms.specs.Format.{formatOf}
 use Rattle.reads.specs.Signed.{lifted, i16At, i32At}
-use Rattle.bytecode.specs.Length.{tableEntries, lookupPairs, tableBytes, lookupBytes, wideBytes, bytesOf, within, lengthOf}
+use Rattle.bytecode.specs.Length.{tableEntries, lookupPairs, tableBytes, lookupBytes, wideBytes, bytesOf, within, documentLength, lengthOf}
 use Rattle.fixed.specs.Fixed.{fixedLength}
 use Rattle.greatest.specs.Greatest.{upTo, greatest}
 use Rattle.leader.specs.Scan.{scanFrom, instructions, scanCount, leadersOf, answered, blockLeader}
@@ -51,7 +51,7 @@ use Rattle.rows.specs.Rows.{AllHold, none, _&_, rows}
 
 pub rows-hold : AllHold rows
 unfolding rows
-    lengthOf within bytesOf formatOf wideBytes tableBytes tableEntries lookupBytes lookupPairs i16At i32At lifted u32At u16At
+    lengthOf documentLength within bytesOf formatOf wideBytes tableBytes tableEntries lookupBytes lookupPairs i16At i32At lifted u32At u16At
     blockLeader answered instructions scanFrom scanCount leadersOf leadersAt branchOf target entryTargets switchTargets greatest upTo
     parameters judged slotsOf typesOf typesAt typesFrom fieldTypeAt typeBehind brackets firstFrom firstIn typeSlots returnSlots closing slotsBehind
     parameterNames joined commaed typeNames typeName elementName baseName baseNames bracketPairs className dotted dotOf
@@ -64,4 +64,5 @@ unfolding rows
 rows-hold =
     refl & refl & refl & refl & refl & refl & refl & refl & refl & refl & refl & refl
     & refl & refl & refl & refl & refl & refl & refl & refl & refl & refl & refl & refl
-    & refl & refl & refl & refl & none
+    & refl & refl & refl & refl & refl & refl & refl & refl & refl & refl & refl & refl
+    & refl & refl & none

@@ -7,7 +7,7 @@ use mathlib.Core.List.{List, [], _∷_, _++_}
 use lib.ListN.{length, replicate}
 use Rattle.bytecode.specs.Length.{lengthOf}
 use Rattle.bytecode.specs.declared.Measure.{Measure}
-use Rattle.bytecode.specs.declared.Measure.the-variants.{Length, NoLength}
+use Rattle.bytecode.specs.declared.Measure.the-variants.{Length, NoLength, Reserved}
 use Rattle.basics.specs.Ascii.{ascii}
 use Rattle.descriptor.specs.Readers.{parameters, returnSlots}
 use Rattle.descriptor.specs.declared.Params.{Params}
@@ -16,7 +16,7 @@ use Rattle.descriptor.specs.declared.Slots.{Slots}
 use Rattle.descriptor.specs.declared.Slots.the-variants.{Slots as SlotsOf, Unreadable as NoSlots}
 use Rattle.leader.specs.Scan.{blockLeader}
 use Rattle.leader.specs.declared.Scan.{Scan}
-use Rattle.leader.specs.declared.Scan.the-variants.{Leader}
+use Rattle.leader.specs.declared.Scan.the-variants.{Leader, Unmeasured}
 use Rattle.names.specs.Names.{parameterNames}
 use Rattle.jdescriptor.specs.Answer.{answer}
 use Rattle.judging.specs.Judged.{numbered}
@@ -82,6 +82,13 @@ rows =
     measures (0xc4 ∷ 0x84 ∷ 0x00 ∷ 0x01 ∷ 0x00 ∷ 0x01 ∷ []) 0 (Length 6) ∷
     measures (0xc4 ∷ 0x15 ∷ 0x00 ∷ 0x01 ∷ []) 0 (Length 4) ∷
     measures (0xc4 ∷ []) 0 NoLength ∷
+    -- document 02, request 6: "The bench row for ca changes from 1 to none". 202 to 255 are reserved; 201 is an instruction, here a
+    -- cut one. There is nothing past the end, and an operand of `wide` is no opcode.
+    measures (0xca ∷ []) 0 Reserved ∷
+    measures (0xff ∷ []) 0 Reserved ∷
+    measures (0xc9 ∷ []) 0 NoLength ∷
+    measures (0xca ∷ []) 1 NoLength ∷
+    measures (0xc4 ∷ 0xca ∷ 0x00 ∷ 0x01 ∷ []) 0 (Length 4) ∷
     -- "tableswitch, low 0, high 1: 24 at index 0, 21 at index 3. Low 1, high 0 at index 0: 16."
     measures (0xaa ∷ 0 ∷ 0 ∷ 0 ∷ 0 ∷ 0 ∷ 0 ∷ 0 ∷ 0 ∷ 0 ∷ 0 ∷ 0 ∷ 0 ∷ 0 ∷ 0 ∷ 1 ∷ 0 ∷ 0 ∷ 0 ∷ 0 ∷ 0 ∷ 0 ∷ 0 ∷ 0 ∷ []) 0 (Length 24) ∷
     measures (0 ∷ 0 ∷ 0 ∷ 0xaa ∷ 0 ∷ 0 ∷ 0 ∷ 0 ∷ 0 ∷ 0 ∷ 0 ∷ 0 ∷ 0 ∷ 0 ∷ 0 ∷ 1 ∷ 0 ∷ 0 ∷ 0 ∷ 0 ∷ 0 ∷ 0 ∷ 0 ∷ 0 ∷ []) 3 (Length 21) ∷
@@ -93,6 +100,12 @@ rows =
     reports (static 3 (0x00 ∷ 0x00 ∷ 0x2a ∷ 0xbe ∷ 0x57 ∷ 0xa7 ∷ 0xff ∷ 0xfe ∷ [])) 1 60 (0 ∷ 28 ∷ 1 ∷ 6 ∷ 0 ∷ []) ∷
     -- "code a7 ff ff b1, fault 3: leader 3."
     leads (0xa7 ∷ 0xff ∷ 0xff ∷ 0xb1 ∷ []) 3 (Leader 3 2) ∷
+    -- document 02, request 6: behind the fault; before it, at the leader; an operand, which moves nothing; at the fault
+    leads (0x2a ∷ 0xbe ∷ 0xca ∷ []) 1 (Unmeasured 2 2) ∷
+    reports (static 1 (0x2a ∷ 0xbe ∷ 0xca ∷ [])) 8 60 (0 ∷ 28 ∷ 1 ∷ 2 ∷ 0 ∷ []) ∷
+    reports (static 2 (0xca ∷ 0x2a ∷ 0xbe ∷ [])) 8 60 (0 ∷ 28 ∷ 1 ∷ 0 ∷ 0 ∷ []) ∷
+    reports (static 4 (0x2a ∷ 0x10 ∷ 0xca ∷ 0x57 ∷ 0xbe ∷ [])) 8 60 (0 ∷ 55 ∷ 2 ∷ 4 ∷ 3 ∷ []) ∷
+    reports (static 1 (0x2a ∷ 0xca ∷ [])) 8 60 (1 ∷ []) ∷
     -- "`(IJ[D)V`: int, long, double[], 4 slots, return 0."
     takes (ascii "(IJ[D)V") (Read 4 5) ∷
     names (ascii "(IJ[D)V") (ascii "int, long, double[]") ∷

@@ -49,7 +49,7 @@ reportNumbers r =
       value = nth 1 (reportNumbered r);
     }
 
--- 0 and the length, or 1
+-- 0 and the length, 1 for a cut instruction, 2 for a reserved byte
 abbrev pub lengthNumbers : Measure → KorsepalLength
 lengthNumbers m = record { status = nth 0 (lengthNumbered m); length = nth 1 (lengthNumbered m) }
 

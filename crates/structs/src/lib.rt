@@ -132,6 +132,10 @@ pub fn length_numbers(length: Measure) -> KorsepalLength
             status: 1,
             length: 0,
         },
+        Measure::Reserved => KorsepalLength {
+            status: 2,
+            length: 0,
+        },
     }
 }
 

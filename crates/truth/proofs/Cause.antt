@@ -6,7 +6,7 @@ use mathlib.Core.Path.{_≡_, _∙_}
 use mathlib.Core.List.{[]}
 use lib.ListN.{length, getD, take}
 use lib.Seq.{getD-take}
-use Rattle.bytecode.specs.Rule.{document-rule}
+use Rattle.bytecode.specs.Rule.{length-rule}
 use Rattle.cell.specs.Cell.{cellOf}
 use Rattle.truth.specs.Cause.{CauseTrueOver, CauseTrue}
 use Rattle.truth.specs.Translation.{since}
@@ -26,4 +26,4 @@ cause-true-over rule handlers f pool p depth b n e enough small marked Val opaqu
     )
 
 pub cause-true : CauseTrue
-cause-true = cause-true-over document-rule []
+cause-true = cause-true-over length-rule []

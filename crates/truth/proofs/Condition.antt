@@ -8,7 +8,7 @@ use lib.ListN.{length, getD, take, length-append}
 use lib.Seq.{take-append-seam, getD-append-add}
 use Rattle.basics.proofs.Each.{each-length, each-at}
 use Rattle.jvms.specs.Machine.{Pool, State, target}
-use Rattle.bytecode.specs.Rule.{LengthRule, document-rule}
+use Rattle.bytecode.specs.Rule.{LengthRule, length-rule}
 use Rattle.leaders.proofs.Declared.{nothing-lands-between, nothing-added-between}
 use Rattle.effects.specs.Depth.{depthOf, at}
 use Rattle.effects.specs.Lookup.{Lookup, lookupIn}
@@ -137,4 +137,4 @@ condition-over rule handlers f pool p =
     }
 
 pub condition-3 : Condition3
-condition-3 = condition-over document-rule []
+condition-3 = condition-over length-rule []

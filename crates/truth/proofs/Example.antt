@@ -12,7 +12,7 @@ use Rattle.basics.proofs.Bytes.{all-below}
 use Rattle.basics.proofs.Every.{every, every-at}
 use Rattle.jvms.specs.Descriptor.{render, renderReturn, renderAll, renderMethod, ClassName, WellFormed, WellFormedMethod}
 use Rattle.jvms.specs.Format.{formatOf}
-use Rattle.bytecode.specs.Length.{bytesOf, within, lengthOf}
+use Rattle.bytecode.specs.Length.{bytesOf, within, documentLength, lengthOf}
 use Rattle.fixed.specs.Fixed.{fixedLength}
 use Rattle.greatest.specs.Greatest.{upTo, greatest}
 use Rattle.leader.specs.Scan.{scanFrom, instructions, scanCount, leadersOf, answered, blockLeader}
@@ -38,7 +38,7 @@ use Rattle.truth.specs.Example.{worked, pool, PremisesMet, NamedRightly}
 use Rattle.truth.proofs.Cause.{cause-true}
 
 leads : blockLeader lengthOf [] (worked .code) 14 ≡ Leader 0 12
-unfolding blockLeader instructions scanFrom scanCount leadersOf leadersAt branchOf answered greatest upTo lengthOf within bytesOf formatOf
+unfolding blockLeader instructions scanFrom scanCount leadersOf leadersAt branchOf answered greatest upTo lengthOf documentLength within bytesOf formatOf
 leads = refl
 
 -- (La)V;)J

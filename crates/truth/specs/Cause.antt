@@ -24,7 +24,7 @@ CauseNames f pool =
     (v : Val) × (target pool (f .code) (since pool (f .code) opaque (f .leader) entering locals (f .count)) ≡ v ∷ [])
     × HeldWhen (since pool (f .code) opaque (f .leader) entering locals) (f .count) b n v
 
--- over any rule and any handlers, and as document 01 has it
+-- over any rule and any handlers, and for a report
 abbrev pub CauseTrueOver : Type 1
 CauseTrueOver =
     (rule : LengthRule) (handlers : List ℕ) (f : Findings) (pool : Pool) → PremisesBy rule handlers f pool → CauseNames f pool

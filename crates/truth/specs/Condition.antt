@@ -1,5 +1,5 @@
--- Condition 3 of the tender, whole, over any length rule and any list of handlers; document 01's is an instance (`Condition3`).
--- proofs/Condition.antt has the proof. Document 01's lists no handlers, so it does not cover their entries: an exception handler
+-- Condition 3 of the tender, whole, over any length rule and any list of handlers; the one of a report is an instance (`Condition3`).
+-- proofs/Condition.antt has the proof. A report lists no handlers, so it does not cover their entries: an exception handler
 -- that begins inside the block enters it too (document 02, request 8).
 -- Assumes nothing.
 use Prim.Native.Nat.{ℕ, _+_, _-_, _≤_, _<_}
@@ -15,7 +15,7 @@ use Rattle.jvms.specs.Descriptor.{render, renderMethod, WellFormed, WellFormedM
 use Rattle.jvms.specs.Machine.{Pool, target}
 use Rattle.bytecode.specs.Length.{lengthOf}
 use Rattle.bytecode.specs.declared.Measure.the-variants.{Length}
-use Rattle.bytecode.specs.Rule.{LengthRule, document-rule}
+use Rattle.bytecode.specs.Rule.{LengthRule, length-rule}
 use Rattle.leader.specs.Scan.{blockLeader}
 use Rattle.leader.specs.declared.Scan.the-variants.{Leader}
 use Rattle.leaders.specs.Leader.{Reached}
@@ -92,13 +92,14 @@ ConditionOver =
     (rule : LengthRule) (handlers : List ℕ) (f : Findings) (pool : Pool) → PremisesBy rule handlers f pool →
     ConcludedBy rule handlers f pool
 
--- ---- document 01's condition: its own lengths, and no handler
+-- ---- the condition of a report: the lengths in use, and no handler. Over document 01's own lengths it is
+-- `condition-over document-rule []`: request 6 took leaders away and gave no other (`LedByDocument`, crates/leaders).
 
 abbrev pub Premises : Findings → Pool → Type 0
-Premises f pool = PremisesBy document-rule [] f pool
+Premises f pool = PremisesBy length-rule [] f pool
 
 abbrev pub Concluded : Findings → Pool → Type 1
-Concluded f pool = ConcludedBy document-rule [] f pool
+Concluded f pool = ConcludedBy length-rule [] f pool
 
 abbrev pub Condition3 : Type 1
 Condition3 = (f : Findings) (pool : Pool) → Premises f pool → Concluded f pool

@@ -1,0 +1,60 @@
+-- What a reserved byte does to a report. A report knows the lengths by its scan alone, so what the scan has of document 01's it has too.
+-- Assumes nothing.
+use Prim.Native.Nat.{ℕ, _≤_}
+use mathlib.Core.Path.{_≡_, refl, _∙_, sym, ap}
+use mathlib.Core.List.{List, []}
+use Rattle.basics.specs.Bytes.{byteAt, AreBytes}
+use Rattle.bytecode.specs.Length.{documentLength}
+use Rattle.bytecode.specs.Rule.{length-rule}
+use Rattle.leader.specs.Scan.{blockLeader}
+use Rattle.leader.specs.declared.Scan.{Scan}
+use Rattle.leaders.specs.Leader.{Arrived}
+use Rattle.leaders.proofs.ByDocument.{led-by-document}
+use Rattle.leaders.proofs.Reserved.{reserved-scan}
+use Rattle.casefile.specs.Parts.{Parts}
+use Rattle.fault.specs.Decoding.{decoded}
+use Rattle.fault.specs.declared.Action.{Action}
+use Rattle.fault.specs.declared.Fault.{Fault}
+use Rattle.fault.specs.declared.Fault.the-variants.{Failed, Nothing}
+use Rattle.action.specs.Action.{actionText}
+use Rattle.trace.specs.Trace.{tracedBy}
+use Rattle.answer.specs.Answer.{said}
+use Rattle.report.specs.Report.{scanOf, saidBy, saidAt, saidOf}
+use Rattle.evidence.specs.Reserved.{documentSaidAt, documentSaid, ReservedReport}
+use Rattle.evidence.proofs.Kind.{kind-two, plain}
+
+module _ (p : Parts) (room : ℕ) where
+  said-alike : scanOf p ≡ blockLeader documentLength [] (p .code) (p .fault) → saidOf p room ≡ documentSaid p room
+  unfolding saidOf
+  said-alike same = by-fault (decoded (p .code) (p .members) (p .memberCount) (p .fault))
+    where
+      by-fault : (fault : Fault) → saidAt p room fault ≡ documentSaidAt p room fault
+      by-fault Nothing = refl
+      by-fault (Failed action depth) =
+          ap (λ (x : Scan). saidBy p action (tracedBy (p .code) (p .members) (p .memberCount) (p .fault) depth room x)) same
+
+  action-alone :
+      AreBytes (p .code) → (count pc : ℕ) →
+      Arrived length-rule (p .code) count pc → 202 ≤ byteAt (p .code) pc → (action : Action) (depth : ℕ) →
+      decoded (p .code) (p .members) (p .memberCount) (p .fault) ≡ Failed action depth →
+      saidOf p room ≡ said (actionText (p .members) (p .memberCount) action) 1 count 0
+  unfolding saidOf
+  action-alone are count pc arrived high action depth decodes =
+      rw (decodes, reserved-scan .stops [] (p .code) are (p .fault) count pc arrived high)
+      (ap (λ (text : List ℕ). said text 1 count 0) (plain p action))
+
+  same-name :
+      (message : List ℕ) (scan block : ℕ) → saidOf p room ≡ said message 2 scan block →
+      documentSaid p room ≡ said message 2 scan block
+  same-name message scan block told =
+      let c = kind-two .only p room message scan block told in
+      let leads = led-by-document .sameLeader length-rule [] (p .code) (p .fault) (c .leader) scan (c .leads) in
+      sym (said-alike (c .leads ∙ sym leads)) ∙ told
+
+pub reserved-report : ReservedReport
+reserved-report =
+    record {
+      unmoved = λ p room none. said-alike p room (reserved-scan .unmoved [] (p .code) (p .fault) none);
+      actionAlone = action-alone;
+      sameName = same-name;
+    }
