@@ -19,7 +19,8 @@ extern "C" {
 
 /* The report of a case.
  * answer 0: a message stands at the start of the output, the rest of which is unchanged; value is its length; kind is 1
- *           (action) or 2 (action and cause); scan counts the instructions of the code, block those that the walk completed
+ *           (action) or 2 (action and cause); scan counts the instructions of the code, or those before the first that has no
+ *           length, block those that the walk completed
  * answer 1: there is no message
  * answer 2: the case breaks its layout; value is the offset of its first wrong item
  * answer 3: the stack lacks room; value is the index of the instruction after which its height exceeds it

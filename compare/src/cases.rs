@@ -205,11 +205,11 @@ impl Run {
     fn leader(&mut self, bytes: &[u8], parts: &Parts, facts: &Facts, fault: usize) -> bool {
         let greatest = usize::try_from(i64::MAX).expect("a usize of 64 bits");
         let scan = scan(&parts.code);
-        let led = scan.leader(fault.min(greatest));
+        let leader = scan.rust_leader(fault.min(greatest));
+        let led = leader.filter(|_| !scan.reserved);
         let theirs = Leader { leader: led.map(|leader| leader as u64), scan: facts.scan as u64 };
         let ours = korsepal::block_leader(&parts.code, fault as u64);
         self.book.expect(bytes, "leader and scan count", ours, theirs);
-        let leader = Wrapped::leader(&scan.code, fault.min(greatest));
         let checked = quietly(|| Checked::leader(&parts.code, fault));
         let panics = checked.is_none();
         if matches!(checked, Some(Some(target)) if target > greatest) {

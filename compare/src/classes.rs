@@ -1,4 +1,4 @@
-//! Real class files: every dereferencing instruction of every method becomes a case.
+//! Real class files: every dereferencing instruction of every method becomes a case, and some methods do with one byte damaged.
 use crate::cases::Run;
 use crate::classfile::{self, ClassFile, Members, Method};
 use crate::layout;
@@ -86,7 +86,7 @@ fn compare_method(run: &mut Run, seen: &mut Seen, class: &ClassFile, method: &Me
 
 /// A case of a method with one byte of its code replaced by a reserved one, at every place.
 fn compare_damaged(run: &mut Run, bytes: &[u8]) {
-    let parts = layout::read(bytes).expect("it keeps the layout");
+    let Ok(parts) = layout::read(bytes) else { return };
     for damaged in damaged_everywhere(&parts) {
         run.book.case("damaged class files");
         run.case(&damaged);

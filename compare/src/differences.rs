@@ -109,7 +109,7 @@ pub fn measured(code: &[u8], pc: usize) -> Measure {
 
 /// The chain of the Rust's lengths from 0, to the end or to an instruction that it can't measure.
 pub struct Scan<'a> {
-    /// The instructions before the first reserved byte.
+    /// The instructions measured, up to the first reserved byte.
     pub count: usize,
     /// A reserved byte was met.
     pub reserved: bool,
@@ -122,12 +122,14 @@ pub struct Scan<'a> {
 }
 
 impl Scan<'_> {
-    /// The leader by the rules: the Rust's, and none behind a reserved byte.
-    pub fn leader(&self, fault: usize) -> Option<usize> {
-        if self.reserved {
-            return None;
-        }
+    /// The Rust's leader, over tables within 32 bits.
+    pub fn rust_leader(&self, fault: usize) -> Option<usize> {
         Wrapped::leader(&self.code, fault)
+    }
+
+    /// The leader by the rules: the Rust's, and none where a reserved byte was met.
+    pub fn leader(&self, fault: usize) -> Option<usize> {
+        self.rust_leader(fault).filter(|_| !self.reserved)
     }
 
     /// Whether a panic of the checked build is listed.

@@ -440,7 +440,7 @@ pub fn parenthesised(random: &mut Random) -> Vec<u8> {
     lay_out(&parts)
 }
 
-/// A method that is measured to its end, and each of its places with three reserved bytes in turn: uploads with one byte damaged.
+/// Uploads of a method that is measured to its end, with one byte of its code damaged: at each place each of three reserved bytes.
 pub fn damaged_uploads(random: &mut Random) -> Vec<Vec<u8>> {
     loop {
         let parts = parts(random);

@@ -269,7 +269,8 @@ fn print_reserved() {
     }
     print_message("D7", "2a be ca, fault 1", &bare(&[0x2a, 0xbe, 0xca], 1, b""));
     print_message("D7", "ca 2a be, fault 2", &bare(&[0xca, 0x2a, 0xbe], 2, b""));
-    let damaged_upload = layout::read(include_bytes!("../../examples/damaged_upload.case")).expect("it keeps the layout");
+    let damaged_upload =
+        layout::read(include_bytes!("../../examples/damaged_upload.case")).expect("it keeps the layout");
     print_message("D7", "examples/damaged_upload", &damaged_upload);
 }
 

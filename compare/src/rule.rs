@@ -33,6 +33,12 @@ impl Landings {
         Landings { leader, found: Vec::new(), ended: false }
     }
 
+    /// Those that were kept, where they are from the same leader.
+    fn kept(landings: &mut Option<Self>, leader: usize) -> &mut Self {
+        let kept = landings.take().filter(|kept| kept.leader == leader);
+        landings.insert(kept.unwrap_or(Landings::new(leader)))
+    }
+
     /// The landings up to the first at or past a fault.
     fn up_to(&mut self, side: &impl Build, code: &[u8], fault: usize) -> &[Landing] {
         let mut at = self.found.last().map_or(self.leader, |landing| landing.place);
@@ -159,11 +165,7 @@ impl Facts {
         let may_differ = stands_in || cut.is_some();
         let own_message = if may_differ { Wrapped::over(parts, &whole).message(fault) } else { message.clone() };
         let holding = whole.holding;
-        let walked = leader.map(|leader| {
-            let kept = landings.take().filter(|kept| kept.leader == leader);
-            let landings = landings.insert(kept.unwrap_or(Landings::new(leader)));
-            Walked::new(walker, code, landings, fault)
-        });
+        let walked = leader.map(|leader| Walked::new(walker, code, Landings::kept(landings, leader), fault));
         Facts {
             holding,
             falling: scan.falling,

@@ -11,7 +11,7 @@ use crate::sides::{Build, Holding, Wrapped};
 use korsepal::{Answer, Parameters};
 use std::collections::HashMap;
 
-/// How many cases there are of each sort: a message with its cause, an action alone, then the answers 1 to 4.
+/// How many cases a new sample has of each sort: a message with its cause, an action alone, then the answers 1 to 4.
 const CASES: [usize; 6] = [1_000, 780, 560, 520, 90, 50];
 
 /// How many descriptors there are for each reader, and how many of one answer at most.
@@ -163,7 +163,11 @@ fn lenient(text: &str) -> Row {
         Parameters::Read { list, slots } => Some((list, slots)),
         _ => None,
     };
-    let said = lenient_text(parameters, korsepal::return_slots(input).map(u64::from), korsepal::field_slots(input).map_or(0, u64::from));
+    let said = lenient_text(
+        parameters,
+        korsepal::return_slots(input).map(u64::from),
+        korsepal::field_slots(input).map_or(0, u64::from),
+    );
     Row { fields: format!("descriptor | {}", spelled(input)), answer, said }
 }
 
@@ -221,10 +225,11 @@ fn descriptors(random: &mut Random, row_of: fn(&str) -> Row) -> Vec<Row> {
     rows
 }
 
-/// The inputs of a stored sample, answered anew; `None` where a row can't be read.
+/// The inputs of a stored sample, answered anew; `None` where a row can't be read, or can't be one any more: another difference holds of
+/// its input, or its answer has a newline.
 pub fn renewed(file: &[u8]) -> Option<Vec<Row>> {
     let rows = file.split(|&byte| byte == b'\n').filter(|line| !line.is_empty() && line[0] != b'#');
-    rows.map(renewed_row).collect()
+    rows.map(|line| renewed_row(line).filter(Row::is_a_line)).collect()
 }
 
 fn renewed_row(line: &[u8]) -> Option<Row> {
@@ -253,7 +258,8 @@ pub fn sample(seed: u64) -> Vec<Row> {
 
 /// The texts of so many of the letters, in their order.
 fn short_texts(letters: u32) -> impl Iterator<Item = String> {
-    let text = move |number: usize| (0..letters).rev().map(|place| LETTERS[number >> (3 * place) & 7] as char).collect();
+    let text =
+        move |number: usize| (0..letters).rev().map(|place| LETTERS[number >> (3 * place) & 7] as char).collect();
     (0..8usize.pow(letters)).map(text)
 }
 
@@ -275,7 +281,8 @@ fn digest(beginning: &str, mut readers: impl FnMut(&str, bool, &mut [u64]) -> Re
 /// The row of a beginning's digest.
 fn digested(beginning: &str) -> Row {
     let Strict { as_type, as_method } = STRICT_WRAPPED;
-    let rust = |text: &str, method, numbers: &mut [u64]| read_by(if method { as_method } else { as_type }, text, numbers);
+    let rust =
+        |text: &str, method, numbers: &mut [u64]| read_by(if method { as_method } else { as_type }, text, numbers);
     let library = |text: &str, method, numbers: &mut [u64]| {
         let read: Read = if method { korsepal::parse_method } else { korsepal::parse_type };
         read(text.as_bytes(), numbers)

@@ -29,7 +29,8 @@ pub use message::build_message;
 #[derive(Clone, Copy, Debug, PartialEq, Eq)]
 pub enum Answer<'a> {
     /// 0: the message, written at the start of the output, the rest of which is unchanged. Kind 1 is the action, 2 the action
-    /// and the cause; `scan` counts the instructions of the code, `block` those that the walk completed.
+    /// and the cause; `scan` counts the instructions of the code, or those before the first that has no length, `block` those
+    /// that the walk completed.
     Message { text: &'a [u8], kind: u32, scan: u32, block: u32 },
     /// 1: there is no message.
     NoMessage,
@@ -85,7 +86,8 @@ pub fn measure(code: &[u8], pc: u64) -> Measure {
     match r.status {
         0 => Measure::Length(r.length),
         1 => Measure::Cut,
-        _ => Measure::Reserved,
+        2 => Measure::Reserved,
+        status => unreachable!("the library has no status {status}"),
     }
 }
 

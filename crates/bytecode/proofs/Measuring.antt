@@ -83,9 +83,9 @@ module _ (lengths code : List ℕ) (pc n : ℕ) (is : n ≡ byteAt lengths (byte
   unfolding lengthBy
   entry-taken some = rw (← is, ne-eqb n 0 (λ z. omega arith))
 
--- past the end there is no instruction, by any table
-pub none-past-by : (lengths code : List ℕ) (pc : ℕ) → length code ≤ pc → lengthOf code pc ≡ lengthBy lengths code pc
-none-past-by lengths code pc past = by-entry (byteAt lengths (byteAt code pc)) refl
+-- past the end it does not matter which table
+pub past-by-table : (lengths code : List ℕ) (pc : ℕ) → length code ≤ pc → lengthOf code pc ≡ lengthBy lengths code pc
+past-by-table lengths code pc past = by-entry (byteAt lengths (byteAt code pc)) refl
   where
     by-entry : (n : ℕ) → n ≡ byteAt lengths (byteAt code pc) → lengthOf code pc ≡ lengthBy lengths code pc
     by-entry zero is = entry-open lengths code pc zero is refl

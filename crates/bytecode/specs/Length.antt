@@ -2,8 +2,7 @@
 -- reserved byte has none (document 02, request 6).
 -- "These are whole numbers that never wrap."
 -- Assumes nothing.
-use Prim.Native.Nat.{ℕ, _+_, _-_, _*_, _/_, _^_, _<_}
-use mathlib.Core.Path.{_≡_}
+use Prim.Native.Nat.{ℕ, _+_, _-_, _*_, _/_, _^_}
 use mathlib.Core.Bool.{Bool}
 use mathlib.Core.List.{List, [], _∷_}
 use lib.Dec.{eqb, leb}
@@ -72,7 +71,7 @@ reservedByte op = leb 202 op
 unfoldable pub lengthOf : List ℕ → ℕ → Measure
 lengthOf code pc = pick (reservedByte (byteAt code pc)) Reserved (documentLength code pc)
 
--- the length by a table: what its entry for the opcode fixes, and where the entry is 0 the one above
+-- the length by a table: what its entry for the opcode fixes, and where the entry is 0 `lengthOf`
 unfoldable pub lengthBy : List ℕ → List ℕ → ℕ → Measure
 lengthBy lengths code pc =
     let n = byteAt lengths (byteAt code pc) in

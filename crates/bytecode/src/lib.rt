@@ -6,7 +6,7 @@ use opcode::Opcode;
 use reads::byte_at;
 use reads::read_i32;
 ghost use mathlib.Core.Path.{_≡_};
-ghost use Prim.Native.Nat.{_+_, _-_, _*_, _^_, _≤_, _<_};
+ghost use Prim.Native.Nat.{_+_, _-_, _*_, _^_, _<_};
 ghost use lib.ListN.{length};
 ghost use Rattle.basics.specs.Bytes.{byteAt};
 ghost use Rattle.bytecode.specs.Length.{aligned, operandsAt, tableBytes, lookupBytes, wideBytes};
@@ -87,7 +87,7 @@ fn bytes_of(code: &[u8], pc: usize) -> usize
     }
 }
 
-// So many bytes from pc on, where they pass no end.
+// A length of so many bytes from pc on, or none where they pass the end.
 fn within(code: &[u8], pc: usize, bytes: usize) -> Measure
     requires { ⌜ pc < length (now code) ⌝ }
     ensures { λ r. ⌜ r ≡ within (now (code .entry)) pc bytes ⌝ }

@@ -1,9 +1,9 @@
 -- What a reserved byte does to a report. A report knows the lengths by its scan alone, so what the scan has of document 01's it has too.
 -- Assumes nothing.
 use Prim.Native.Nat.{ℕ, _≤_}
-use mathlib.Core.Path.{_≡_, refl, _∙_, sym, ap}
+use mathlib.Core.Path.{_≡_, _∙_, sym, ap}
 use mathlib.Core.List.{List, []}
-use Rattle.basics.specs.Bytes.{byteAt, AreBytes}
+use Rattle.basics.specs.Bytes.{byteAt}
 use Rattle.bytecode.specs.Length.{documentLength}
 use Rattle.bytecode.specs.Rule.{length-rule}
 use Rattle.leader.specs.Scan.{blockLeader}
@@ -14,33 +14,27 @@ use Rattle.leaders.proofs.Reserved.{reserved-scan}
 use Rattle.casefile.specs.Parts.{Parts}
 use Rattle.fault.specs.Decoding.{decoded}
 use Rattle.fault.specs.declared.Action.{Action}
-use Rattle.fault.specs.declared.Fault.{Fault}
-use Rattle.fault.specs.declared.Fault.the-variants.{Failed, Nothing}
+use Rattle.fault.specs.declared.Fault.the-variants.{Failed}
 use Rattle.action.specs.Action.{actionText}
-use Rattle.trace.specs.Trace.{tracedBy}
 use Rattle.answer.specs.Answer.{said}
-use Rattle.report.specs.Report.{scanOf, saidBy, saidAt, saidOf}
-use Rattle.evidence.specs.Reserved.{documentSaidAt, documentSaid, ReservedReport}
+use Rattle.report.specs.Report.{scanOf, saidFrom, saidOf}
+use Rattle.evidence.specs.Reserved.{documentSaid, ReservedReport}
 use Rattle.evidence.proofs.Kind.{kind-two, plain}
 
 module _ (p : Parts) (room : ℕ) where
   said-alike : scanOf p ≡ blockLeader documentLength [] (p .code) (p .fault) → saidOf p room ≡ documentSaid p room
   unfolding saidOf
-  said-alike same = by-fault (decoded (p .code) (p .members) (p .memberCount) (p .fault))
-    where
-      by-fault : (fault : Fault) → saidAt p room fault ≡ documentSaidAt p room fault
-      by-fault Nothing = refl
-      by-fault (Failed action depth) =
-          ap (λ (x : Scan). saidBy p action (tracedBy (p .code) (p .members) (p .memberCount) (p .fault) depth room x)) same
+  said-alike same =
+      ap (λ (x : Scan). saidFrom x p room (decoded (p .code) (p .members) (p .memberCount) (p .fault))) same
 
   action-alone :
-      AreBytes (p .code) → (count pc : ℕ) →
+      (count pc : ℕ) →
       Arrived length-rule (p .code) count pc → 202 ≤ byteAt (p .code) pc → (action : Action) (depth : ℕ) →
       decoded (p .code) (p .members) (p .memberCount) (p .fault) ≡ Failed action depth →
       saidOf p room ≡ said (actionText (p .members) (p .memberCount) action) 1 count 0
   unfolding saidOf
-  action-alone are count pc arrived high action depth decodes =
-      rw (decodes, reserved-scan .stops [] (p .code) are (p .fault) count pc arrived high)
+  action-alone count pc arrived high action depth decodes =
+      rw (decodes, reserved-scan .stops [] (p .code) (p .fault) count pc arrived high)
       (ap (λ (text : List ℕ). said text 1 count 0) (plain p action))
 
   same-name :

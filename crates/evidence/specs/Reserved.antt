@@ -1,42 +1,37 @@
--- What a reserved byte does to a report (document 02, request 6: "a cause came out of it"), and that it does nothing to any other.
+-- What a reserved byte does to a report (document 02, request 6: "a cause came out of it"), and that it does nothing to any other. What a
+-- whole case is answered, and what is left in its output, goes by what is said of its parts (`answerOf`, `outputOf` of crates/report).
 -- proofs/Reserved.antt has the proof.
 -- Assumes nothing.
 use Prim.Native.Nat.{ℕ, _≤_}
 use mathlib.Core.Path.{_≡_}
 use mathlib.Core.List.{List, []}
-use Rattle.basics.specs.Bytes.{byteAt, AreBytes}
+use Rattle.basics.specs.Bytes.{byteAt}
 use Rattle.bytecode.specs.Length.{documentLength}
-use Rattle.bytecode.specs.Rule.{document-rule, length-rule}
+use Rattle.bytecode.specs.Rule.{length-rule}
 use Rattle.leader.specs.Scan.{blockLeader}
-use Rattle.leaders.specs.Leader.{Arrived, Reached}
+use Rattle.leaders.specs.Leader.{Arrived}
 use Rattle.leaders.specs.Reserved.{MeetsNone}
 use Rattle.casefile.specs.Parts.{Parts}
 use Rattle.fault.specs.Decoding.{decoded}
 use Rattle.fault.specs.declared.Action.{Action}
-use Rattle.fault.specs.declared.Fault.{Fault}
-use Rattle.fault.specs.declared.Fault.the-variants.{Failed, Nothing}
+use Rattle.fault.specs.declared.Fault.the-variants.{Failed}
 use Rattle.action.specs.Action.{actionText}
-use Rattle.trace.specs.Trace.{tracedBy}
-use Rattle.answer.specs.Answer.{Said, silent, said}
-use Rattle.report.specs.Report.{saidBy, saidOf}
+use Rattle.answer.specs.Answer.{Said, said}
+use Rattle.report.specs.Report.{saidFrom, saidOf}
 
--- what the same rules say by document 01's own lengths
-abbrev pub documentSaidAt : Parts → ℕ → Fault → Said
-documentSaidAt p room Nothing = silent
-documentSaidAt p room (Failed action depth) =
-    saidBy p action
-    (tracedBy (p .code) (p .members) (p .memberCount) (p .fault) depth room (blockLeader documentLength [] (p .code) (p .fault)))
-
+-- what is said by document 01's own lengths
 abbrev pub documentSaid : Parts → ℕ → Said
-documentSaid p room = documentSaidAt p room (decoded (p .code) (p .members) (p .memberCount) (p .fault))
+documentSaid p room =
+    saidFrom (blockLeader documentLength [] (p .code) (p .fault)) p room
+    (decoded (p .code) (p .members) (p .memberCount) (p .fault))
 
 pub record ReservedReport : Type 0 where
-  -- where document 01's scan meets none, the report is document 01's
+  -- where the scan meets none, the report is document 01's
   pub unmoved : (p : Parts) (room : ℕ) → MeetsNone (p .code) → saidOf p room ≡ documentSaid p room
-  -- where the scan comes to one, before the fault or behind it, the report is the action alone, and its scan count is that of the
-  -- instructions before the byte
+  -- where it meets one, before the fault or behind it, the report is the action alone. The scan count is that of the instructions before
+  -- the byte, the block count 0, whatever room there is.
   pub actionAlone :
-      (p : Parts) (room : ℕ) → AreBytes (p .code) → (count pc : ℕ) →
+      (p : Parts) (room count pc : ℕ) →
       Arrived length-rule (p .code) count pc → 202 ≤ byteAt (p .code) pc → (action : Action) (depth : ℕ) →
       decoded (p .code) (p .members) (p .memberCount) (p .fault) ≡ Failed action depth →
       saidOf p room ≡ said (actionText (p .members) (p .memberCount) action) 1 count 0

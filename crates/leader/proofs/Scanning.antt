@@ -60,12 +60,17 @@ module _ (measure : List ℕ → ℕ → Measure) (code : List ℕ) (pc : ℕ) w
       by-measure true e Reserved measured = without (ltb-true pc (length code) e) (reserved-is-none measured)
 
   -- an instruction that has a length
+  pub scan-next :
+      (k n : ℕ) → pc < length code → measure code pc ≡ Length n →
+      scanFrom measure code (suc k) pc ≡ instruction pc n (scanFrom measure code k (pc + n))
+  unfolding scanFrom
+  scan-next k n inside e = simp (lt-ltb _ _ inside, e)
+
   pub scan-one :
       (k n : ℕ) → 0 < k → pc < length code → measure code pc ≡ Length n →
       scanFrom measure code k pc ≡ instruction pc n (scanFrom measure code (k - 1) (pc + n))
-  unfolding scanFrom
   scan-one zero n some inside e = absurd (not-suc-le-zero some)
-  scan-one (suc k) n some inside e = simp (lt-ltb _ _ inside, e, sub-one)
+  scan-one (suc k) n some inside e = rw sub-one (scan-next k n inside e)
 
   -- one that has none
   pub scan-stops :

@@ -23,7 +23,7 @@ use Rattle.leader.specs.Targets.{leadersAt}
 use Rattle.leader.specs.declared.Scan.{Scan}
 use Rattle.leader.specs.declared.Scan.the-variants.{Leader, Unmeasured}
 use Rattle.leader.proofs.Greatest.{none-more}
-use Rattle.leader.proofs.Scanning.{Turn, at-end, without, with-length, turn, scan-one, scan-stops, scan-ends, led-alike as alike}
+use Rattle.leader.proofs.Scanning.{None, Turn, at-end, without, with-length, turn, scan-one, scan-stops, scan-ends, led-alike as alike}
 use Rattle.leaders.specs.Leader.{Arrived, start, next, Reached, IsLeader, zeroth, target, after, added, Wanted, Means, LeaderDeclared, NothingLandsBetween, NothingAddedBetween, LedAlike, ZeroAddsNothing}
 use Rattle.leaders.proofs.Landings.{leaders-agree}
 use Rattle.leaders.proofs.Most.{greatest-below, greatest-most, greatest-member}
@@ -217,6 +217,21 @@ module _ (rule : LengthRule) (code : List ℕ) where
 
 -- ---- the answer
 
+-- the scan stops where an instruction that it comes to has no length
+pub stops-at :
+    (rule : LengthRule) (extra code : List ℕ) (fault count pc : ℕ) → Arrived rule code count pc → pc < length code →
+    None (rule .measure code pc) → Unmeasured pc count ≡ blockLeader (rule .measure) extra code fault
+unfolding blockLeader answered scanCount
+stops-at rule extra code fault count pc arrived inside none =
+    let scanned = instructions (rule .measure) code in
+    let best = greatest fault (extra ++ leadersOf code scanned) in
+    let here = along rule code arrived in
+    let within = arrived-within rule code arrived in
+    let some : 0 < length code - count = omega (arith, within .0, inside) in
+    let cut : restAt rule code count pc ≡ unmeasured pc = scan-stops (rule .measure) code pc (length code - count) some inside none in
+    ap₂ Unmeasured refl (omega (arith, here .counts, ap scanCount cut))
+    ∙ sym (here .ends best (scanCount scanned) ∙ ap (λ (r : Instructions). answered r best (scanCount scanned)) cut)
+
 module _ (rule : LengthRule) (extra code : List ℕ) (are : AreBytes code) (fault : ℕ) where
   abbrev scanned : Instructions
   scanned = instructions (rule .measure) code
@@ -271,13 +286,7 @@ module _ (rule : LengthRule) (extra code : List ℕ) (are : AreBytes code) (faul
       let least = wanted .greatest leader (m .1 .isLeader) (m .1 .atOrBelow) in
       let most = m .1 .greatest best (wanted .isLeader) (wanted .atOrBelow) in
       ap₂ Leader (omega arith) (omega (arith, here .counts, ap scanCount done)) ∙ sym answers
-  only (Unmeasured pc count) m =
-      let here = along rule code (m .0) in
-      let within = arrived-within rule code (m .0) in
-      let some : 0 < length code - count = omega (arith, within .0, m .1) in
-      let cut : restAt rule code count pc ≡ unmeasured pc = scan-stops (rule .measure) code pc (length code - count) some (m .1) (m .2) in
-      ap₂ Unmeasured refl (omega (arith, here .counts, ap scanCount cut))
-      ∙ sym (here .ends best (scanCount scanned) ∙ ap (λ (r : Instructions). answered r best (scanCount scanned)) cut)
+  only (Unmeasured pc count) m = stops-at rule extra code fault count pc (m .0) (m .1) (m .2)
 
 pub leader-declared : LeaderDeclared
 leader-declared = record { means = means; only = only }

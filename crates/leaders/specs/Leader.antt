@@ -93,18 +93,21 @@ LedAlike =
     (measure : List ℕ → ℕ → Measure) (code : List ℕ) (fault : ℕ) (one another : List ℕ) →
     greatest fault one ≡ greatest fault another → blockLeader measure one code fault ≡ blockLeader measure another code fault
 
--- Document 01's rule gives the most lengths. Another leads as it does wherever the two measure alike what document 01's scan reaches.
--- A leader that another gives is document 01's, with its count, and the two scans reach the same instructions.
+-- Document 01's rule gives the most lengths. What another has of it:
 pub record LedByDocument : Type 0 where
+  -- its scan reaches nothing else
+  pub reachesNoMore : (rule : LengthRule) (code : List ℕ) (pc : ℕ) → Reached rule code pc → Reached document-rule code pc
+  -- where it gives a length to all that its scan reaches and document 01 gives one to, the answer is document 01's
   pub sameLengths :
       (rule : LengthRule) (extra code : List ℕ) (fault : ℕ) →
-      ((pc : ℕ) → Reached document-rule code pc → rule .measure code pc ≡ documentLength code pc) →
+      ((pc n : ℕ) → Reached rule code pc → documentLength code pc ≡ Length n → rule .measure code pc ≡ Length n) →
       blockLeader (rule .measure) extra code fault ≡ blockLeader documentLength extra code fault
+  -- a leader that it gives is document 01's, with its count, and its scan reaches all that document 01's does
   pub sameLeader :
       (rule : LengthRule) (extra code : List ℕ) (fault leader count : ℕ) →
       blockLeader (rule .measure) extra code fault ≡ Leader leader count →
       blockLeader documentLength extra code fault ≡ Leader leader count
-  pub sameReach :
+  pub reachesAll :
       (rule : LengthRule) (extra code : List ℕ) (fault leader count : ℕ) →
       blockLeader (rule .measure) extra code fault ≡ Leader leader count →
       (pc : ℕ) → Reached document-rule code pc → Reached rule code pc

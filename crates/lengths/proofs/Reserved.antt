@@ -13,7 +13,7 @@ use Rattle.basics.specs.Choice.{pick}
 use Rattle.basics.proofs.Bytes.{byte-past}
 use Rattle.jvms.specs.Format.{Format, fixed, tableswitch, lookupswitch, wide, reserved, formatOf}
 use Rattle.jvms.proofs.Reserved.{isReserved, reserved-from-202}
-use Rattle.bytecode.specs.Length.{wideBytes, bytesBy, bytesOf, within, documentLength, reservedByte, lengthOf}
+use Rattle.bytecode.specs.Length.{wideBytes, bytesOf, within, documentLength, reservedByte, lengthOf}
 use Rattle.bytecode.specs.declared.Measure.{Measure}
 use Rattle.bytecode.specs.declared.Measure.the-variants.{Length, NoLength, Reserved}
 use Rattle.bytecode.proofs.Measuring.{is-reserved, not-reserved, fits, passes, none-past}
@@ -93,7 +93,7 @@ reserved-bytes =
       noInstruction = no-instruction;
       noOther = λ op below e.
           leb-true 202 op (sym (reserved-from-202 op below) ∙ ap isReserved e);
-      told = λ code pc high. sym (is-reserved code pc high);
+      always = λ code pc high. sym (is-reserved code pc high);
       only = λ code pc e. reserved-only code pc (answered code pc) e;
       elsewhere = λ code pc low. sym (not-reserved code pc low);
       cut = cut-is;

@@ -1,1 +1,1 @@
-// Document 01's lengths held against JVMS 6.5; there is no code here.
+// Lengths held against JVMS 6.5; there is no code here.

@@ -45,17 +45,23 @@ partsBy flags fault code signature members memberCount records recordCount =
 abbrev pub scanOf : Parts → Scan
 scanOf p = blockLeader lengthOf [] (p .code) (p .fault)
 
--- the cause of the fault, whose reference lies at a depth, with so many cells lent
+-- the cause of the fault, whose reference lies at a depth, with so many cells lent: over what a scan answered, and over the report's
+abbrev pub tracedFrom : Scan → Parts → ℕ → ℕ → Trace
+tracedFrom scan p depth room = tracedBy (p .code) (p .members) (p .memberCount) (p .fault) depth room scan
+
 abbrev pub tracedIn : Parts → ℕ → ℕ → Trace
-tracedIn p depth room = tracedBy (p .code) (p .members) (p .memberCount) (p .fault) depth room (scanOf p)
+tracedIn p depth room = tracedFrom (scanOf p) p depth room
 
 abbrev pub saidBy : Parts → Action → Trace → Said
 saidBy p action (trace.NoRoom index) = roomless index
 saidBy p action (trace.Traced scan block cause) = said (messageOf p action cause) (kindOf cause) scan block
 
+abbrev pub saidFrom : Scan → Parts → ℕ → Fault → Said
+saidFrom scan p room Nothing = silent
+saidFrom scan p room (Failed action depth) = saidBy p action (tracedFrom scan p depth room)
+
 abbrev pub saidAt : Parts → ℕ → Fault → Said
-saidAt p room Nothing = silent
-saidAt p room (Failed action depth) = saidBy p action (tracedIn p depth room)
+saidAt p room fault = saidFrom (scanOf p) p room fault
 
 -- of the parts of a case, with so many cells lent
 unfoldable pub saidOf : Parts → ℕ → Said

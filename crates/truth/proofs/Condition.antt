@@ -8,7 +8,7 @@ use lib.ListN.{length, getD, take, length-append}
 use lib.Seq.{take-append-seam, getD-append-add}
 use Rattle.basics.proofs.Each.{each-length, each-at}
 use Rattle.jvms.specs.Machine.{Pool, State, target}
-use Rattle.bytecode.specs.Rule.{LengthRule, length-rule}
+use Rattle.bytecode.specs.Rule.{LengthRule, document-rule, length-rule}
 use Rattle.leaders.proofs.Declared.{nothing-lands-between, nothing-added-between}
 use Rattle.effects.specs.Depth.{depthOf, at}
 use Rattle.effects.specs.Lookup.{Lookup, lookupIn}
@@ -17,7 +17,7 @@ use Rattle.effects.proofs.Rows.{rows-agree}
 use Rattle.walk.specs.Room.{completed, blockWalk}
 use Rattle.cell.specs.Cell.{cellOf}
 use Rattle.walk.specs.Walk.{cells, walk}
-use Rattle.truth.specs.Condition.{Described, Findings, PremisesBy, ConditionOver, Condition3}
+use Rattle.truth.specs.Condition.{Described, Findings, PremisesBy, ConditionOver, Condition3, DocumentCondition3}
 use Rattle.truth.specs.Relation.{Setting, Speaks, Given, Translated}
 use Rattle.truth.specs.Translation.{since, HeldWhen, Translates}
 use Rattle.cell.proofs.Laws.{cell-injective, no-load-is-zero}
@@ -138,3 +138,6 @@ condition-over rule handlers f pool p =
 
 pub condition-3 : Condition3
 condition-3 = condition-over length-rule []
+
+pub document-condition-3 : DocumentCondition3
+document-condition-3 = condition-over document-rule []

@@ -15,7 +15,7 @@ use Rattle.jvms.specs.Descriptor.{render, renderMethod, WellFormed, WellFormedM
 use Rattle.jvms.specs.Machine.{Pool, target}
 use Rattle.bytecode.specs.Length.{lengthOf}
 use Rattle.bytecode.specs.declared.Measure.the-variants.{Length}
-use Rattle.bytecode.specs.Rule.{LengthRule, length-rule}
+use Rattle.bytecode.specs.Rule.{LengthRule, document-rule, length-rule}
 use Rattle.leader.specs.Scan.{blockLeader}
 use Rattle.leader.specs.declared.Scan.the-variants.{Leader}
 use Rattle.leaders.specs.Leader.{Reached}
@@ -92,8 +92,7 @@ ConditionOver =
     (rule : LengthRule) (handlers : List ℕ) (f : Findings) (pool : Pool) → PremisesBy rule handlers f pool →
     ConcludedBy rule handlers f pool
 
--- ---- the condition of a report: the lengths in use, and no handler. Over document 01's own lengths it is
--- `condition-over document-rule []`: request 6 took leaders away and gave no other (`LedByDocument`, crates/leaders).
+-- ---- the condition of a report: the lengths in use, and no handler
 
 abbrev pub Premises : Findings → Pool → Type 0
 Premises f pool = PremisesBy length-rule [] f pool
@@ -103,3 +102,7 @@ Concluded f pool = ConcludedBy length-rule [] f pool
 
 abbrev pub Condition3 : Type 1
 Condition3 = (f : Findings) (pool : Pool) → Premises f pool → Concluded f pool
+
+-- the same by document 01's own lengths, which have a leader for more codes (`LedByDocument`, crates/leaders)
+abbrev pub DocumentCondition3 : Type 1
+DocumentCondition3 = (f : Findings) (pool : Pool) → PremisesBy document-rule [] f pool → ConcludedBy document-rule [] f pool

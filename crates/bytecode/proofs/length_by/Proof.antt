@@ -4,7 +4,7 @@ use native.Mathlib.Omega.{arith}
 use mathlib.Core.Logic.{⊎-elim}
 use mathlib.Core.Path.{_∙_}
 use borrow.Author.Needs.{needs}
-use Rattle.bytecode.proofs.Measuring.{entry-open, entry-taken, none-past-by}
+use Rattle.bytecode.proofs.Measuring.{entry-open, entry-taken, past-by-table}
 use Rattle.bytecode.proofs.length_by.Statement.{statement}
 use Rattle.bytecode.proofs.length_by.Tie as tie
 
@@ -29,7 +29,7 @@ instruction-length-requires c κs = search needs
 returns-2 : tie.Need-returns-2
 returns-2 c =
     c .instruction-length .ensures
-    ∙ ⊎-elim (λ w. entry-open _ _ _ _ (w .2 .ensures) (omega arith)) (λ w. none-past-by _ _ _ (w .left)) (c .before .if1 .came)
+    ∙ ⊎-elim (λ w. entry-open _ _ _ _ (w .2 .ensures) (omega arith)) (λ w. past-by-table _ _ _ (w .left)) (c .before .if1 .came)
 
 pub length-by-spec : {M : Type 1} → statement M
 length-by-spec =

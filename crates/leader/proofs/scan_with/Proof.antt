@@ -42,7 +42,7 @@ loop-holds c =
 length-by-requires : tie.Need-length-by-requires Inv-loop μ-loop
 length-by-requires c κs = tt
 
--- measured by the table, an instruction has document 01's length
+-- measured by the table, an instruction has the rule's length
 measures :
     (c : tie.After-length-by Inv-loop μ-loop) →
     lengthOf (c .before .before .before .before .before .before .before .args .code .now) (c .before .before .before .loop .pc)
