@@ -39,7 +39,7 @@ korsepal_report_result korsepal_report(const uint8_t *bytes, size_t bytes_count,
                                        uint8_t *output, size_t output_count);
 
 /* The length of the instruction at an index.
- * status 0: it has a length
+ * status 0: length is its bytes, the opcode among them; on 1 and 2 length is 0
  * status 1: it is cut; there is no byte at the index, or the instruction would pass the end of the code
  * status 2: the byte is reserved, 202 to 255; no instruction has it as its opcode
  * A caller that tests for 1 to know that there is no length must test for other than 0: what is 2 now was a length of 1. */

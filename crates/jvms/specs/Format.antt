@@ -17,7 +17,7 @@ pub data Operand : Type 0 where
   dimensions : ℕ → Operand
 
 -- What an opcode says of the bytes behind it: an operand list of fixed length, or one of the three whose length the
--- operands tell. JVMS 6.2 reserves the rest: JVMS 6.5 has no format for it.
+-- operands tell. JVMS 6.5 has no format for the rest, of which JVMS 6.2 reserves three.
 pub data Format : Type 0 where
   fixed : List Operand → Format
   tableswitch : Format

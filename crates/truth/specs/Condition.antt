@@ -103,6 +103,6 @@ Concluded f pool = ConcludedBy length-rule [] f pool
 abbrev pub Condition3 : Type 1
 Condition3 = (f : Findings) (pool : Pool) → Premises f pool → Concluded f pool
 
--- the same by document 01's own lengths, which have a leader for more codes (`LedByDocument`, crates/leaders)
+-- the same with a scan by document 01's own lengths, which have a leader for more codes (`LedByDocument`, crates/leaders)
 abbrev pub DocumentCondition3 : Type 1
 DocumentCondition3 = (f : Findings) (pool : Pool) → PremisesBy document-rule [] f pool → ConcludedBy document-rule [] f pool
