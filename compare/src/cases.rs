@@ -206,8 +206,7 @@ impl Run {
         let greatest = usize::try_from(i64::MAX).expect("a usize of 64 bits");
         let scan = scan(&parts.code);
         let leader = scan.rust_leader(fault.min(greatest));
-        let led = leader.filter(|_| !scan.reserved);
-        let theirs = Leader { leader: led.map(|leader| leader as u64), scan: facts.scan as u64 };
+        let theirs = Leader { leader: scan.by_rules(leader).map(|leader| leader as u64), scan: facts.scan as u64 };
         let ours = korsepal::block_leader(&parts.code, fault as u64);
         self.book.expect(bytes, "leader and scan count", ours, theirs);
         let checked = quietly(|| Checked::leader(&parts.code, fault));

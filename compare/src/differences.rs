@@ -127,9 +127,9 @@ impl Scan<'_> {
         Wrapped::leader(&self.code, fault)
     }
 
-    /// The leader by the rules: the Rust's, and none where a reserved byte was met.
-    pub fn leader(&self, fault: usize) -> Option<usize> {
-        self.rust_leader(fault).filter(|_| !self.reserved)
+    /// The leader by the rules: that of the Rust, and none where a reserved byte was met.
+    pub fn by_rules(&self, leader: Option<usize>) -> Option<usize> {
+        leader.filter(|_| !self.reserved)
     }
 
     /// Whether a panic of the checked build is listed.

@@ -158,7 +158,7 @@ impl Facts {
         let whole = if cut.is_some() { Held::new(parts, &parts.signature) } else { held };
         let checked = Checked::over(parts, &whole);
         let scan = scan(code);
-        let leader = scan.leader(fault);
+        let leader = scan.by_rules(scan.rust_leader(fault));
         let walker = plain.as_ref().unwrap_or(&wrapped);
         let stands_in = scan.wide || scan.reserved || plain.is_some();
         let message = if stands_in { composed(&wrapped, walker, code, leader, fault) } else { wrapped.message(fault) };

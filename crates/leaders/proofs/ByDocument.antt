@@ -88,6 +88,31 @@ module _ (rule : LengthRule) (code : List ℕ) where
 
 -- ---- all of it
 
+module _ (rule : LengthRule) (extra code : List ℕ) (fault : ℕ) where
+  abbrev scanned : Instructions
+  scanned = instructions (rule .measure) code
+
+  abbrev best : ℕ
+  best = greatest fault (extra ++ leadersOf code scanned)
+
+  same-leader :
+      (leader count : ℕ) → blockLeader (rule .measure) extra code fault ≡ Leader leader count →
+      blockLeader documentLength extra code fault ≡ Leader leader count
+  unfolding blockLeader instructions
+  same-leader leader count e =
+      ap (answerTo extra code fault) (sym (whole-alike rule code best (scanCount scanned) leader count (length code) 0 e)) ∙ e
+
+  reaches-all :
+      (leader count : ℕ) → blockLeader (rule .measure) extra code fault ≡ Leader leader count →
+      (pc : ℕ) → Reached document-rule code pc → Reached rule code pc
+  unfolding blockLeader
+  reaches-all leader count e pc reached =
+      record {
+        count = reached .count;
+        arrived = arrives-at-all rule code best (scanCount scanned) leader count e (reached .arrived);
+        inside = reached .inside;
+      }
+
 pub led-by-document : LedByDocument
 unfolding blockLeader instructions
 led-by-document =
@@ -95,16 +120,6 @@ led-by-document =
       reachesNoMore = reaches-no-more;
       sameLengths = λ rule extra code fault alike.
           ap (answerTo extra code fault) (scans-alike rule code alike (length code) start);
-      sameLeader = λ rule extra code fault leader count e.
-          let scanned = scanFrom (rule .measure) code (length code) 0 in
-          let best = greatest fault (extra ++ leadersOf code scanned) in
-          ap (answerTo extra code fault) (sym (whole-alike rule code best (scanCount scanned) leader count (length code) 0 e)) ∙ e;
-      reachesAll = λ rule extra code fault leader count e pc reached.
-          let scanned = scanFrom (rule .measure) code (length code) 0 in
-          let best = greatest fault (extra ++ leadersOf code scanned) in
-          record {
-            count = reached .count;
-            arrived = arrives-at-all rule code best (scanCount scanned) leader count e (reached .arrived);
-            inside = reached .inside;
-          };
+      sameLeader = same-leader;
+      reachesAll = reaches-all;
     }

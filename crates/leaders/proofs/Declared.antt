@@ -81,8 +81,7 @@ module _ (rule : LengthRule) (code : List ℕ) where
 
   abbrev Stops : ℕ → ℕ → Scan → Type 0
   Stops leader total (Leader at count) = (at ≡ leader) × (count ≡ total) × Arrived rule code count (length code)
-  Stops leader total (Unmeasured pc count) =
-      Arrived rule code count pc × (pc < length code) × ((n : ℕ) → rule .measure code pc ≡ Length n → ⊥)
+  Stops leader total (Unmeasured pc count) = Arrived rule code count pc × (pc < length code) × None (rule .measure code pc)
 
   at-the-end :
       {count pc : ℕ} (leader total : ℕ) → Arrived rule code count pc → length code ≤ pc → total ≡ count + 0 →
