@@ -8,22 +8,45 @@ use Rattle.jvms.specs.Machine.{target}
 use Rattle.jvms.specs.Stack.{entries, entryOf}
 
 pub instructions-by-name :
-    (Val : Type 0) (opaque : ℕ → ℕ → Val) (locals : ℕ → Val) (a b c d : Val) → InstructionsByName Val opaque locals a b c d
+    (Val : Type 0) (opaque : ℕ → ℕ → Val) (locals : ℕ → Val) (a b c d e : Val) → InstructionsByName Val opaque locals a b c d e
 unfolding entries entryOf target u16At
-instructions-by-name Val opaque locals a b c d =
+instructions-by-name Val opaque locals a b c d e =
     record {
       pop = refl;
       pop2 = refl;
       dup = refl;
       dup2 = refl;
       swap = refl;
+      dupX1 = refl;
+      dupX2 = refl;
+      dup2X1 = refl;
+      dup2X2 = refl;
+      iadd = refl;
+      ladd = refl;
+      dneg = refl;
+      lshl = refl;
+      i2d = refl;
+      l2i = refl;
+      lcmp = refl;
+      fcmpl = refl;
       iaload = refl;
       aaload = refl;
       laload = refl;
       aaloadFrom = refl;
+      aastore = refl;
+      dastore = refl;
+      dastoreTo = refl;
       getfieldInt = refl;
       getfieldLong = refl;
       getfieldFrom = refl;
+      putstaticInt = refl;
+      putstaticLong = refl;
+      putfieldInt = refl;
+      putfieldLong = refl;
+      putfieldTo = refl;
+      monitorenter = refl;
+      monitorexit = refl;
+      multianewarray = refl;
       invokestaticInt = refl;
       invokestaticLong = refl;
       invokevirtualInt = refl;

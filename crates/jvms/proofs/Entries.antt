@@ -16,7 +16,7 @@ use Rattle.jvms.specs.Laws.{oneSlotLoads, twoSlotLoads, oneSlotStores, t
 use Rattle.jvms.specs.Machine.{localAt}
 use Rattle.jvms.specs.Stack.{Operand, int, long, float, double, reference, category1, category2, field, parameters}
 use Rattle.jvms.specs.Stack.{Local, indexed, numbered, Entry, unlisted, does, eitherOf, loads, stores, increments, throws}
-use Rattle.jvms.specs.Stack.{returned, Cited, slotsOf, slotsIn, entries, entryIn, entryOf}
+use Rattle.jvms.specs.Stack.{returned, dimensions, Cited, slotsOf, slotsIn, entries, entryIn, entryOf}
 
 -- ---- tests at the opcodes of a list, and at every entry of the table
 
@@ -67,6 +67,7 @@ weighs slots (category2 n) = eqb 2 slots
 weighs slots (field n) = false
 weighs slots (parameters n) = false
 weighs slots (returned n) = false
+weighs slots (dimensions n) = false
 
 pub weighed : (cited : Cited) (slots : ℕ) (o : Operand) → T (weighs slots o) → slotsOf cited o ≡ slots
 weighed cited slots (int n) t = eqb→eq 1 slots t
@@ -79,6 +80,7 @@ weighed cited slots (category2 n) t = eqb→eq 2 slots t
 weighed cited slots (field n) t = absurd t
 weighed cited slots (parameters n) t = absurd t
 weighed cited slots (returned n) t = absurd t
+weighed cited slots (dimensions n) t = absurd t
 
 -- one operand, of so many slots
 abbrev pub single : ℕ → List Operand → Bool
@@ -122,7 +124,7 @@ named last (numbered n) code pc t =
 abbrev pub isStore : ℕ → ℕ → Entry → Bool
 isStore slots op unlisted = false
 isStore slots op (does f) = false
-isStore slots op (eitherOf f g) = false
+isStore slots op (eitherOf f others) = false
 isStore slots op (loads l f) = false
 isStore slots op (stores l f) = both (names 58 l op) (both (single slots (f .before)) (isNone (f .after)))
 isStore slots op (increments f) = false
@@ -132,7 +134,7 @@ isStore slots op (throws os) = false
 abbrev pub isLoad : ℕ → ℕ → Entry → Bool
 isLoad slots op unlisted = false
 isLoad slots op (does f) = false
-isLoad slots op (eitherOf f g) = false
+isLoad slots op (eitherOf f others) = false
 isLoad slots op (loads l f) = both (names 25 l op) (both (isNone (f .before)) (single slots (f .after)))
 isLoad slots op (stores l f) = false
 isLoad slots op (increments f) = false

@@ -20,7 +20,7 @@ use Rattle.jvms.proofs.Slots.{below-none, put-back, wrote-one}
 abbrev leavesLocals : Entry → Bool
 leavesLocals unlisted = true
 leavesLocals (does f) = true
-leavesLocals (eitherOf f g) = true
+leavesLocals (eitherOf f others) = true
 leavesLocals (loads l f) = true
 leavesLocals (stores l f) = false
 leavesLocals (increments f) = false
@@ -36,7 +36,7 @@ module _ {Val : Type 0} where
     left : (e : Entry) → T (leavesLocals e) → perform cited code own st e .locals ≡ st .locals
     left unlisted t = refl
     left (does f) t = refl
-    left (eitherOf f g) t = refl
+    left (eitherOf f others) t = refl
     left (loads l f) t = refl
     left (stores l f) t = absurd t
     left (increments f) t = absurd t
@@ -45,7 +45,7 @@ module _ {Val : Type 0} where
     stayed : (e : Entry) → (T (isListed e) → ⊥) → perform cited code own st e ≡ st
     stayed unlisted n = refl
     stayed (does f) n = absurd (n tt)
-    stayed (eitherOf f g) n = absurd (n tt)
+    stayed (eitherOf f others) n = absurd (n tt)
     stayed (loads l f) n = absurd (n tt)
     stayed (stores l f) n = absurd (n tt)
     stayed (increments f) n = absurd (n tt)

@@ -32,7 +32,7 @@ module _ {Val : Type 0} where
         × (perform cited code own st e .locals ≡ st .locals)
     loaded unlisted t = absurd t
     loaded (does f) t = absurd t
-    loaded (eitherOf f g) t = absurd t
+    loaded (eitherOf f others) t = absurd t
     loaded (loads l f) t =
         let naming = names 25 l (byteAt code (st .pc)) in
         let none = isNone (f .before) in

@@ -29,7 +29,7 @@ early (numbered n) = leb n 255
 abbrev near : Entry → Bool
 near unlisted = true
 near (does f) = true
-near (eitherOf f g) = true
+near (eitherOf f others) = true
 near (loads l f) = both (early l) (few (f .after))
 near (stores l f) = both (early l) (few (f .before))
 near (increments f) = true
@@ -86,7 +86,7 @@ module _ {Val : Type 0} where
           Alike (perform cited code own (state pc stack f) e) (perform cited code own (state pc stack g) e)
       performed-alike f g same unlisted t = record { pc = refl; stack = refl; locals = same }
       performed-alike f g same (does form) t = record { pc = refl; stack = refl; locals = same }
-      performed-alike f g same (eitherOf form other) t = record { pc = refl; stack = refl; locals = same }
+      performed-alike f g same (eitherOf form others) t = record { pc = refl; stack = refl; locals = same }
       performed-alike f g same (loads l form) t =
           let local = early-local code are pc l (both-first (early l) (few (form .after)) t) in
           let slots = few-slots cited (form .after) (both-second (early l) (few (form .after)) t) in
@@ -119,7 +119,7 @@ module _ {Val : Type 0} where
         perform cited code own st e .locals i ≡ st .locals i
     performed-above cited own st i above unlisted t = refl
     performed-above cited own st i above (does f) t = refl
-    performed-above cited own st i above (eitherOf f g) t = refl
+    performed-above cited own st i above (eitherOf f others) t = refl
     performed-above cited own st i above (loads l f) t = refl
     performed-above cited own st i above (stores l f) t =
         let taken = topmost (slotsIn cited (f .before)) (st .stack) in

@@ -42,7 +42,7 @@ listed-measure = every-entry (λ op e. pick (isListed e) (measures (bytesOf op) 
 abbrev goesOn : Entry → Bool
 goesOn unlisted = true
 goesOn (does f) = true
-goesOn (eitherOf f g) = true
+goesOn (eitherOf f others) = true
 goesOn (loads l f) = true
 goesOn (stores l f) = true
 goesOn (increments f) = true
@@ -94,7 +94,7 @@ module _ {Val : Type 0} where
         (e : Entry) → T (isListed e) → T (goesOn e) → perform cited code own st e .pc ≡ st .pc + sizeOf (extentAt code (st .pc))
     moved unlisted t g = absurd t
     moved (does f) t g = refl
-    moved (eitherOf f h) t g = refl
+    moved (eitherOf f others) t g = refl
     moved (loads l f) t g = refl
     moved (stores l f) t g = refl
     moved (increments f) t g = refl
@@ -103,7 +103,7 @@ module _ {Val : Type 0} where
     not-back : (e : Entry) → st .pc ≤ perform cited code own st e .pc
     not-back unlisted = omega arith
     not-back (does f) = omega arith
-    not-back (eitherOf f g) = omega arith
+    not-back (eitherOf f others) = omega arith
     not-back (loads l f) = omega arith
     not-back (stores l f) = omega arith
     not-back (increments f) = omega arith

@@ -28,7 +28,7 @@ module _ {Val : Type 0} where
         Left (perform cited code own st e) s (written (st .locals) (localStored code (st .pc)) vs)
     stored unlisted t = absurd t
     stored (does f) t = absurd t
-    stored (eitherOf f g) t = absurd t
+    stored (eitherOf f others) t = absurd t
     stored (loads l f) t = absurd t
     stored (stores l f) t =
         let naming = names 58 l (byteAt code (st .pc)) in

@@ -1,5 +1,5 @@
 -- Instructions by name, each run alone on a stack that is written out, bottom first, so that each line can be held to JVMS 6.5 at a
--- glance. Values are any values a, b, c, d; `opaque 0 k` is the k-th slot that the instruction at 0 makes itself. proofs/ByName.antt
+-- glance. Values are any values a, b, c, d, e; `opaque 0 k` is the k-th slot that the instruction at 0 makes itself. proofs/ByName.antt
 -- has their proof.
 -- Assumes nothing.
 use Prim.Native.Nat.{ℕ}
@@ -32,7 +32,7 @@ module _ {Val : Type 0} (opaque : ℕ → ℕ → Val) (locals : ℕ → Val) wh
   abbrev pub dereferences : Pool → List ℕ → List Val → List Val
   dereferences pool code stack = target pool code (startingWith stack)
 
-pub record InstructionsByName (Val : Type 0) (opaque : ℕ → ℕ → Val) (locals : ℕ → Val) (a b c d : Val) : Type 0 where
+pub record InstructionsByName (Val : Type 0) (opaque : ℕ → ℕ → Val) (locals : ℕ → Val) (a b c d e : Val) : Type 0 where
   -- pop: "..., value → ..."
   pub pop : leaves opaque locals small (0x57 ∷ []) (a ∷ b ∷ []) ≡ a ∷ []
   -- pop2: "..., value2, value1 → ..."
@@ -43,15 +43,51 @@ pub record InstructionsByName (Val : Type 0) (opaque : ℕ → ℕ → Val) (loc
   pub dup2 : leaves opaque locals small (0x5c ∷ []) (a ∷ b ∷ c ∷ []) ≡ a ∷ b ∷ c ∷ b ∷ c ∷ []
   -- swap: "..., value2, value1 → ..., value1, value2"
   pub swap : leaves opaque locals small (0x5f ∷ []) (a ∷ b ∷ c ∷ []) ≡ a ∷ c ∷ b ∷ []
+  -- dup_x1: "..., value2, value1 → ..., value1, value2, value1"
+  pub dupX1 : leaves opaque locals small (0x5a ∷ []) (a ∷ b ∷ c ∷ []) ≡ a ∷ c ∷ b ∷ c ∷ []
+  -- dup_x2: "..., value3, value2, value1 → ..., value1, value3, value2, value1"
+  pub dupX2 : leaves opaque locals small (0x5b ∷ []) (a ∷ b ∷ c ∷ d ∷ []) ≡ a ∷ d ∷ b ∷ c ∷ d ∷ []
+  -- dup2_x1: "..., value3, value2, value1 → ..., value2, value1, value3, value2, value1"
+  pub dup2X1 : leaves opaque locals small (0x5d ∷ []) (a ∷ b ∷ c ∷ d ∷ []) ≡ a ∷ c ∷ d ∷ b ∷ c ∷ d ∷ []
+  -- dup2_x2: "..., value4, value3, value2, value1 → ..., value2, value1, value4, value3, value2, value1"
+  pub dup2X2 : leaves opaque locals small (0x5e ∷ []) (a ∷ b ∷ c ∷ d ∷ e ∷ []) ≡ a ∷ d ∷ e ∷ b ∷ c ∷ d ∷ e ∷ []
+  -- iadd, ladd: "..., value1, value2 → ..., result"
+  pub iadd : leaves opaque locals small (0x60 ∷ []) (a ∷ b ∷ c ∷ []) ≡ a ∷ opaque 0 0 ∷ []
+  pub ladd : leaves opaque locals small (0x61 ∷ []) (a ∷ b ∷ c ∷ d ∷ e ∷ []) ≡ a ∷ opaque 0 0 ∷ opaque 0 1 ∷ []
+  -- dneg: "..., value → ..., result"
+  pub dneg : leaves opaque locals small (0x77 ∷ []) (a ∷ b ∷ c ∷ []) ≡ a ∷ opaque 0 0 ∷ opaque 0 1 ∷ []
+  -- lshl: "value1 must be of type long, and value2 must be of type int"
+  pub lshl : leaves opaque locals small (0x79 ∷ []) (a ∷ b ∷ c ∷ d ∷ []) ≡ a ∷ opaque 0 0 ∷ opaque 0 1 ∷ []
+  -- i2d, l2i: "..., value → ..., result"
+  pub i2d : leaves opaque locals small (0x87 ∷ []) (a ∷ b ∷ []) ≡ a ∷ opaque 0 0 ∷ opaque 0 1 ∷ []
+  pub l2i : leaves opaque locals small (0x88 ∷ []) (a ∷ b ∷ c ∷ []) ≡ a ∷ opaque 0 0 ∷ []
+  -- lcmp, fcmpl: "..., value1, value2 → ..., result", an int
+  pub lcmp : leaves opaque locals small (0x94 ∷ []) (a ∷ b ∷ c ∷ d ∷ e ∷ []) ≡ a ∷ opaque 0 0 ∷ []
+  pub fcmpl : leaves opaque locals small (0x95 ∷ []) (a ∷ b ∷ c ∷ []) ≡ a ∷ opaque 0 0 ∷ []
   -- iaload, aaload and laload: "..., arrayref, index → ..., value"; a long has two slots
   pub iaload : leaves opaque locals small (0x2e ∷ []) (a ∷ b ∷ c ∷ []) ≡ a ∷ opaque 0 0 ∷ []
   pub aaload : leaves opaque locals small (0x32 ∷ []) (a ∷ b ∷ c ∷ []) ≡ a ∷ opaque 0 0 ∷ []
   pub laload : leaves opaque locals small (0x2f ∷ []) (a ∷ b ∷ c ∷ []) ≡ a ∷ opaque 0 0 ∷ opaque 0 1 ∷ []
   pub aaloadFrom : dereferences opaque locals small (0x32 ∷ []) (a ∷ b ∷ c ∷ []) ≡ b ∷ []
+  -- aastore, dastore: "..., arrayref, index, value → ..."; a double has two slots
+  pub aastore : leaves opaque locals small (0x53 ∷ []) (a ∷ b ∷ c ∷ d ∷ []) ≡ a ∷ []
+  pub dastore : leaves opaque locals small (0x52 ∷ []) (a ∷ b ∷ c ∷ d ∷ e ∷ []) ≡ a ∷ []
+  pub dastoreTo : dereferences opaque locals small (0x52 ∷ []) (a ∷ b ∷ c ∷ d ∷ e ∷ []) ≡ b ∷ []
   -- getfield: "..., objectref → ..., value", of a field I and of a field J
   pub getfieldInt : leaves opaque locals small (0xb4 ∷ 0 ∷ 1 ∷ []) (a ∷ b ∷ []) ≡ a ∷ opaque 0 0 ∷ []
   pub getfieldLong : leaves opaque locals large (0xb4 ∷ 0 ∷ 1 ∷ []) (a ∷ b ∷ []) ≡ a ∷ opaque 0 0 ∷ opaque 0 1 ∷ []
   pub getfieldFrom : dereferences opaque locals large (0xb4 ∷ 0 ∷ 1 ∷ []) (a ∷ b ∷ []) ≡ b ∷ []
+  -- putstatic: "..., value → ..."; putfield: "..., objectref, value → ..."; of a field I and of a field J
+  pub putstaticInt : leaves opaque locals small (0xb3 ∷ 0 ∷ 1 ∷ []) (a ∷ b ∷ c ∷ []) ≡ a ∷ b ∷ []
+  pub putstaticLong : leaves opaque locals large (0xb3 ∷ 0 ∷ 1 ∷ []) (a ∷ b ∷ c ∷ []) ≡ a ∷ []
+  pub putfieldInt : leaves opaque locals small (0xb5 ∷ 0 ∷ 1 ∷ []) (a ∷ b ∷ c ∷ d ∷ []) ≡ a ∷ b ∷ []
+  pub putfieldLong : leaves opaque locals large (0xb5 ∷ 0 ∷ 1 ∷ []) (a ∷ b ∷ c ∷ d ∷ []) ≡ a ∷ []
+  pub putfieldTo : dereferences opaque locals large (0xb5 ∷ 0 ∷ 1 ∷ []) (a ∷ b ∷ c ∷ d ∷ []) ≡ b ∷ []
+  -- monitorenter, monitorexit: "..., objectref → ..."
+  pub monitorenter : leaves opaque locals small (0xc2 ∷ []) (a ∷ b ∷ []) ≡ a ∷ []
+  pub monitorexit : leaves opaque locals small (0xc3 ∷ []) (a ∷ b ∷ []) ≡ a ∷ []
+  -- multianewarray: "..., count1, [count2, ...] → ..., arrayref", of two dimensions
+  pub multianewarray : leaves opaque locals small (0xc5 ∷ 0 ∷ 1 ∷ 2 ∷ []) (a ∷ b ∷ c ∷ []) ≡ a ∷ opaque 0 0 ∷ []
   -- invokestatic: "..., [arg1, [arg2 ...]] → ...", and what the method returns: of (I)V and of (IJ)D
   pub invokestaticInt : leaves opaque locals small (0xb8 ∷ 0 ∷ 1 ∷ []) (a ∷ b ∷ []) ≡ a ∷ []
   pub invokestaticLong :

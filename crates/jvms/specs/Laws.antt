@@ -4,7 +4,7 @@
 use Prim.Native.Nat.{ℕ, suc, _+_, _-_, _%_, _≤_, _<_}
 use mathlib.Core.Path.{_≡_}
 use mathlib.Core.Bool.{Bool, true, false}
-use mathlib.Core.List.{List, [], _∷_, _++_}
+use mathlib.Core.List.{List, [], _∷_, _++_, List·Memᴰ}
 use lib.Dec.{T, eqb, leb}
 use Rattle.basics.specs.Bytes.{byteAt, AreBytes}
 use Rattle.basics.specs.Choice.{pick, oneOf, between}
@@ -50,16 +50,14 @@ writesLocals op = pick (between 54 78 op) true (eqb op 132)
 
 -- ---- listed opcodes and their bytes, by number
 
--- 0 to 89, nop to dup; dup2, swap, iinc, getstatic; 180 to 185, getfield to invokeinterface; 187 to 195, new to monitorexit
+-- 0 to 152, nop to dcmpg; 178 to 185, getstatic to invokeinterface; 187 to 195, new to monitorexit; multianewarray
 abbrev pub listed : ℕ → Bool
-listed op =
-    pick (leb op 89) true
-    (pick (oneOf (92 ∷ 95 ∷ 132 ∷ 178 ∷ []) op) true (pick (between 180 185 op) true (between 187 195 op)))
+listed op = pick (leb op 152) true (pick (between 178 185 op) true (pick (between 187 195 op) true (eqb op 197)))
 
 abbrev pub isListed : Entry → Bool
 isListed unlisted = false
 isListed (does f) = true
-isListed (eitherOf f g) = true
+isListed (eitherOf f others) = true
 isListed (loads l f) = true
 isListed (stores l f) = true
 isListed (increments f) = true
@@ -69,14 +67,14 @@ isListed (throws os) = true
 abbrev pub ofTwoBytes : List ℕ
 ofTwoBytes = 16 ∷ 18 ∷ 21 ∷ 22 ∷ 23 ∷ 24 ∷ 25 ∷ 54 ∷ 55 ∷ 56 ∷ 57 ∷ 58 ∷ 188 ∷ []
 
--- sipush, ldc_w, ldc2_w; iinc; getstatic, getfield, putfield; invokevirtual, invokespecial, invokestatic; new, anewarray;
--- checkcast, instanceof
+-- sipush, ldc_w, ldc2_w; iinc; getstatic, putstatic, getfield, putfield; invokevirtual, invokespecial, invokestatic; new,
+-- anewarray; checkcast, instanceof
 abbrev pub ofThreeBytes : List ℕ
-ofThreeBytes = 17 ∷ 19 ∷ 20 ∷ 132 ∷ 178 ∷ 180 ∷ 181 ∷ 182 ∷ 183 ∷ 184 ∷ 187 ∷ 189 ∷ 192 ∷ 193 ∷ []
+ofThreeBytes = 17 ∷ 19 ∷ 20 ∷ 132 ∷ 178 ∷ 179 ∷ 180 ∷ 181 ∷ 182 ∷ 183 ∷ 184 ∷ 187 ∷ 189 ∷ 192 ∷ 193 ∷ []
 
--- invokeinterface has five, and every other listed opcode one
+-- multianewarray has four, invokeinterface five, and every other listed opcode one
 abbrev pub bytesOf : ℕ → ℕ
-bytesOf op = pick (oneOf ofTwoBytes op) 2 (pick (oneOf ofThreeBytes op) 3 (pick (eqb op 185) 5 1))
+bytesOf op = pick (oneOf ofTwoBytes op) 2 (pick (oneOf ofThreeBytes op) 3 (pick (eqb op 197) 4 (pick (eqb op 185) 5 1)))
 
 -- the instruction at pc has a fixed format, and takes the opcode's byte and those of its operands
 pub record FixedSize (code : List ℕ) (pc : ℕ) : Type 0 where
@@ -146,10 +144,10 @@ pub record MachineLaws (Val : Type 0) (pool : Pool) (code : List ℕ) (opaque : 
   pub checkcast :
       (st : State Val) → byteAt code (st .pc) ≡ 192 →
       (next pool code opaque st .stack ≡ st .stack) × (next pool code opaque st .locals ≡ st .locals)
-  -- an opcode with two forms does the same to every stack by either
+  -- an opcode with several forms does the same to every stack by each
   pub eitherForm :
-      (op : ℕ) (f g : Form) → entryOf op ≡ eitherOf f g → (cited : Cited) (own : ℕ → Val) (stack : List Val) →
-      replaced cited f own stack ≡ replaced cited g own stack
+      (op : ℕ) (f : Form) (others : List Form) → entryOf op ≡ eitherOf f others → (g : Form) → List·Memᴰ g others →
+      (cited : Cited) (own : ℕ → Val) (stack : List Val) → replaced cited f own stack ≡ replaced cited g own stack
   -- aload_0, astore_1, aload_1, from any entering stack and locals: local 0 is on top, and in local 1
   pub copies :
       (entering : List Val) (locals : ℕ → Val) →

@@ -19,13 +19,15 @@ pub record Pool : Type 0 where
   pub field : ℕ → FieldType
   pub method : ℕ → MethodType
 
--- the slots of the member that the instruction at pc cites by "(indexbyte1 << 8) | indexbyte2"
+-- the slots of the member that the instruction at pc cites by "(indexbyte1 << 8) | indexbyte2"; and behind that index "the
+-- dimensions operand is an unsigned byte"
 abbrev pub citedAt : Pool → List ℕ → ℕ → Cited
 citedAt pool code pc =
     record {
       field = slots (pool .field (u16At code (pc + 1)));
       args = slotsAll (pool .method (u16At code (pc + 1)) .parameters);
       gives = returnSlots (pool .method (u16At code (pc + 1)) .result);
+      dims = byteAt code (pc + 3);
     }
 
 -- "The index is an unsigned byte", or stands in the opcode's name
@@ -107,7 +109,7 @@ module _ {Val : Type 0} where
       abbrev pub perform : Entry → State Val
       perform unlisted = st
       perform (does f) = onward (replaced f opaque (st .stack)) (st .locals)
-      perform (eitherOf f g) = onward (replaced f opaque (st .stack)) (st .locals)
+      perform (eitherOf f others) = onward (replaced f opaque (st .stack)) (st .locals)
       perform (loads l f) = onward (replaced f (λ k. st .locals (localAt code (st .pc) l + k)) (st .stack)) (st .locals)
       perform (stores l f) =
           onward (replaced f opaque (st .stack))

@@ -1,7 +1,8 @@
 -- The operand stack of JVMS 6.5: for every opcode that is modelled or dereferences, its operands and its results, by the names
 -- that JVMS writes, bottom first as JVMS draws them, and the locals that it reads and writes. Written from JVMS alone.
--- JVMS's `<i>`, `<l>`, `<f>`, `<d>` are `constant` here, its `length` is `size`, its `[arg1, [arg2 ...]]` is `args`. What an
--- invoked method returns is its `result` here: JVMS draws it at the return instruction, which pushes it.
+-- JVMS's `<i>`, `<l>`, `<f>`, `<d>` are `constant` here, its `length` is `size`, its `[arg1, [arg2 ...]]` is `args`, its
+-- `count1, [count2, ...]` is `counts`. What an invoked method returns is its `result` here: JVMS draws it at the return
+-- instruction, which pushes it.
 -- Assumes nothing.
 use Prim.Native.Nat.{ℕ, zero, suc, _+_}
 use mathlib.Core.Bool.{Bool}
@@ -10,12 +11,13 @@ use lib.Dec.{eqb}
 use Rattle.basics.specs.Bytes.{byteAt}
 
 pub data Name : Type 0 where
-  value value1 value2 constant null objectref arrayref index count size result args : Name
+  value value1 value2 value3 value4 constant null objectref arrayref index count counts size result args : Name
 
 -- an operand or a result by its name, of a type. `category1` and `category2`: any value of that category (JVMS 2.11.1).
--- `field`, `parameters`, `returned`: what the descriptor of the member that the instruction cites says.
+-- `field`, `parameters`, `returned`: what the descriptor of the member that the instruction cites says. `dimensions`: as many ints
+-- as the instruction's dimensions byte says.
 pub data Operand : Type 0 where
-  int long float double reference category1 category2 field parameters returned : Name → Operand
+  int long float double reference category1 category2 field parameters returned dimensions : Name → Operand
 
 -- "..., before → ..., after"
 pub record Form : Type 0 where
@@ -33,9 +35,9 @@ pub data Local : Type 0 where
 
 pub data Entry : Type 0 where
   unlisted : Entry
-  -- one form; two forms, by the category of the values
+  -- one form; a first form and others, by the category of the values
   does : Form → Entry
-  eitherOf : Form → Form → Entry
+  eitherOf : Form → List Form → Entry
   -- the results are what the local holds, and the next one for two slots
   loads : Local → Form → Entry
   -- the operand goes into the local, and the next one for two slots
@@ -47,11 +49,12 @@ pub data Entry : Type 0 where
 
 -- ---- slots
 
--- of a field's value, of a method's parameters and of its result
+-- of a field's value, of a method's parameters and of its result; and of the counts of an array's dimensions, one each
 pub record Cited : Type 0 where
   pub field : ℕ
   pub args : ℕ
   pub gives : ℕ
+  pub dims : ℕ
 
 -- JVMS 2.6.2: "a value of type long or double contributes two units to the depth and a value of any other type contributes one unit"
 abbrev pub slotsOf : Cited → Operand → ℕ
@@ -65,6 +68,7 @@ slotsOf cited (category2 n) = 2
 slotsOf cited (field n) = cited .field
 slotsOf cited (parameters n) = cited .args
 slotsOf cited (returned n) = cited .gives
+slotsOf cited (dimensions n) = cited .dims
 
 abbrev pub slotsIn : Cited → List Operand → ℕ
 slotsIn cited [] = 0
@@ -83,6 +87,7 @@ nameOf (category2 n) = n
 nameOf (field n) = n
 nameOf (parameters n) = n
 nameOf (returned n) = n
+nameOf (dimensions n) = n
 
 abbrev pub ordinal : Name → ℕ
 ordinal value = 0
@@ -97,6 +102,9 @@ ordinal count = 8
 ordinal size = 9
 ordinal result = 10
 ordinal args = 11
+ordinal value3 = 12
+ordinal value4 = 13
+ordinal counts = 14
 
 abbrev pub sameName : Name → Name → Bool
 sameName a b = eqb (ordinal a) (ordinal b)
@@ -193,73 +201,86 @@ entries =
     does (reference arrayref ∷ int index ∷ int value ∷ [] ⇒ []) ∷  -- 85 castore
     does (reference arrayref ∷ int index ∷ int value ∷ [] ⇒ []) ∷  -- 86 sastore
     does (category1 value ∷ [] ⇒ []) ∷  -- 87 pop
-    eitherOf (category1 value2 ∷ category1 value1 ∷ [] ⇒ []) (category2 value ∷ [] ⇒ []) ∷  -- 88 pop2
+    eitherOf (category1 value2 ∷ category1 value1 ∷ [] ⇒ []) ((category2 value ∷ [] ⇒ []) ∷ []) ∷  -- 88 pop2
     does (category1 value ∷ [] ⇒ category1 value ∷ category1 value ∷ []) ∷  -- 89 dup
-    unlisted ∷  -- 90 dup_x1
-    unlisted ∷  -- 91 dup_x2
+    does (category1 value2 ∷ category1 value1 ∷ [] ⇒ category1 value1 ∷ category1 value2 ∷ category1 value1 ∷ []) ∷  -- 90 dup_x1
+    eitherOf
+    (category1 value3 ∷ category1 value2 ∷ category1 value1 ∷ []
+    ⇒ category1 value1 ∷ category1 value3 ∷ category1 value2 ∷ category1 value1 ∷ [])
+    ((category2 value2 ∷ category1 value1 ∷ [] ⇒ category1 value1 ∷ category2 value2 ∷ category1 value1 ∷ []) ∷ []) ∷  -- 91 dup_x2
     eitherOf
     (category1 value2 ∷ category1 value1 ∷ [] ⇒ category1 value2 ∷ category1 value1 ∷ category1 value2 ∷ category1 value1 ∷ [])
-    (category2 value ∷ [] ⇒ category2 value ∷ category2 value ∷ []) ∷  -- 92 dup2
-    unlisted ∷  -- 93 dup2_x1
-    unlisted ∷  -- 94 dup2_x2
+    ((category2 value ∷ [] ⇒ category2 value ∷ category2 value ∷ []) ∷ []) ∷  -- 92 dup2
+    eitherOf
+    (category1 value3 ∷ category1 value2 ∷ category1 value1 ∷ []
+    ⇒ category1 value2 ∷ category1 value1 ∷ category1 value3 ∷ category1 value2 ∷ category1 value1 ∷ [])
+    ((category1 value2 ∷ category2 value1 ∷ [] ⇒ category2 value1 ∷ category1 value2 ∷ category2 value1 ∷ []) ∷ []) ∷  -- 93 dup2_x1
+    eitherOf
+    (category1 value4 ∷ category1 value3 ∷ category1 value2 ∷ category1 value1 ∷ []
+    ⇒ category1 value2 ∷ category1 value1 ∷ category1 value4 ∷ category1 value3 ∷ category1 value2 ∷ category1 value1 ∷ [])
+    ((category1 value3 ∷ category1 value2 ∷ category2 value1 ∷ []
+    ⇒ category2 value1 ∷ category1 value3 ∷ category1 value2 ∷ category2 value1 ∷ [])
+    ∷ (category2 value3 ∷ category1 value2 ∷ category1 value1 ∷ []
+    ⇒ category1 value2 ∷ category1 value1 ∷ category2 value3 ∷ category1 value2 ∷ category1 value1 ∷ [])
+    ∷ (category2 value2 ∷ category2 value1 ∷ [] ⇒ category2 value1 ∷ category2 value2 ∷ category2 value1 ∷ []) ∷ []) ∷  -- 94 dup2_x2
     does (category1 value2 ∷ category1 value1 ∷ [] ⇒ category1 value1 ∷ category1 value2 ∷ []) ∷  -- 95 swap
-    unlisted ∷  -- 96 iadd
-    unlisted ∷  -- 97 ladd
-    unlisted ∷  -- 98 fadd
-    unlisted ∷  -- 99 dadd
-    unlisted ∷  -- 100 isub
-    unlisted ∷  -- 101 lsub
-    unlisted ∷  -- 102 fsub
-    unlisted ∷  -- 103 dsub
-    unlisted ∷  -- 104 imul
-    unlisted ∷  -- 105 lmul
-    unlisted ∷  -- 106 fmul
-    unlisted ∷  -- 107 dmul
-    unlisted ∷  -- 108 idiv
-    unlisted ∷  -- 109 ldiv
-    unlisted ∷  -- 110 fdiv
-    unlisted ∷  -- 111 ddiv
-    unlisted ∷  -- 112 irem
-    unlisted ∷  -- 113 lrem
-    unlisted ∷  -- 114 frem
-    unlisted ∷  -- 115 drem
-    unlisted ∷  -- 116 ineg
-    unlisted ∷  -- 117 lneg
-    unlisted ∷  -- 118 fneg
-    unlisted ∷  -- 119 dneg
-    unlisted ∷  -- 120 ishl
-    unlisted ∷  -- 121 lshl
-    unlisted ∷  -- 122 ishr
-    unlisted ∷  -- 123 lshr
-    unlisted ∷  -- 124 iushr
-    unlisted ∷  -- 125 lushr
-    unlisted ∷  -- 126 iand
-    unlisted ∷  -- 127 land
-    unlisted ∷  -- 128 ior
-    unlisted ∷  -- 129 lor
-    unlisted ∷  -- 130 ixor
-    unlisted ∷  -- 131 lxor
+    does (int value1 ∷ int value2 ∷ [] ⇒ int result ∷ []) ∷  -- 96 iadd
+    does (long value1 ∷ long value2 ∷ [] ⇒ long result ∷ []) ∷  -- 97 ladd
+    does (float value1 ∷ float value2 ∷ [] ⇒ float result ∷ []) ∷  -- 98 fadd
+    does (double value1 ∷ double value2 ∷ [] ⇒ double result ∷ []) ∷  -- 99 dadd
+    does (int value1 ∷ int value2 ∷ [] ⇒ int result ∷ []) ∷  -- 100 isub
+    does (long value1 ∷ long value2 ∷ [] ⇒ long result ∷ []) ∷  -- 101 lsub
+    does (float value1 ∷ float value2 ∷ [] ⇒ float result ∷ []) ∷  -- 102 fsub
+    does (double value1 ∷ double value2 ∷ [] ⇒ double result ∷ []) ∷  -- 103 dsub
+    does (int value1 ∷ int value2 ∷ [] ⇒ int result ∷ []) ∷  -- 104 imul
+    does (long value1 ∷ long value2 ∷ [] ⇒ long result ∷ []) ∷  -- 105 lmul
+    does (float value1 ∷ float value2 ∷ [] ⇒ float result ∷ []) ∷  -- 106 fmul
+    does (double value1 ∷ double value2 ∷ [] ⇒ double result ∷ []) ∷  -- 107 dmul
+    does (int value1 ∷ int value2 ∷ [] ⇒ int result ∷ []) ∷  -- 108 idiv
+    does (long value1 ∷ long value2 ∷ [] ⇒ long result ∷ []) ∷  -- 109 ldiv
+    does (float value1 ∷ float value2 ∷ [] ⇒ float result ∷ []) ∷  -- 110 fdiv
+    does (double value1 ∷ double value2 ∷ [] ⇒ double result ∷ []) ∷  -- 111 ddiv
+    does (int value1 ∷ int value2 ∷ [] ⇒ int result ∷ []) ∷  -- 112 irem
+    does (long value1 ∷ long value2 ∷ [] ⇒ long result ∷ []) ∷  -- 113 lrem
+    does (float value1 ∷ float value2 ∷ [] ⇒ float result ∷ []) ∷  -- 114 frem
+    does (double value1 ∷ double value2 ∷ [] ⇒ double result ∷ []) ∷  -- 115 drem
+    does (int value ∷ [] ⇒ int result ∷ []) ∷  -- 116 ineg
+    does (long value ∷ [] ⇒ long result ∷ []) ∷  -- 117 lneg
+    does (float value ∷ [] ⇒ float result ∷ []) ∷  -- 118 fneg
+    does (double value ∷ [] ⇒ double result ∷ []) ∷  -- 119 dneg
+    does (int value1 ∷ int value2 ∷ [] ⇒ int result ∷ []) ∷  -- 120 ishl
+    does (long value1 ∷ int value2 ∷ [] ⇒ long result ∷ []) ∷  -- 121 lshl
+    does (int value1 ∷ int value2 ∷ [] ⇒ int result ∷ []) ∷  -- 122 ishr
+    does (long value1 ∷ int value2 ∷ [] ⇒ long result ∷ []) ∷  -- 123 lshr
+    does (int value1 ∷ int value2 ∷ [] ⇒ int result ∷ []) ∷  -- 124 iushr
+    does (long value1 ∷ int value2 ∷ [] ⇒ long result ∷ []) ∷  -- 125 lushr
+    does (int value1 ∷ int value2 ∷ [] ⇒ int result ∷ []) ∷  -- 126 iand
+    does (long value1 ∷ long value2 ∷ [] ⇒ long result ∷ []) ∷  -- 127 land
+    does (int value1 ∷ int value2 ∷ [] ⇒ int result ∷ []) ∷  -- 128 ior
+    does (long value1 ∷ long value2 ∷ [] ⇒ long result ∷ []) ∷  -- 129 lor
+    does (int value1 ∷ int value2 ∷ [] ⇒ int result ∷ []) ∷  -- 130 ixor
+    does (long value1 ∷ long value2 ∷ [] ⇒ long result ∷ []) ∷  -- 131 lxor
     increments ([] ⇒ []) ∷  -- 132 iinc
-    unlisted ∷  -- 133 i2l
-    unlisted ∷  -- 134 i2f
-    unlisted ∷  -- 135 i2d
-    unlisted ∷  -- 136 l2i
-    unlisted ∷  -- 137 l2f
-    unlisted ∷  -- 138 l2d
-    unlisted ∷  -- 139 f2i
-    unlisted ∷  -- 140 f2l
-    unlisted ∷  -- 141 f2d
-    unlisted ∷  -- 142 d2i
-    unlisted ∷  -- 143 d2l
-    unlisted ∷  -- 144 d2f
-    unlisted ∷  -- 145 i2b
-    unlisted ∷  -- 146 i2c
-    unlisted ∷  -- 147 i2s
-    unlisted ∷  -- 148 lcmp
-    unlisted ∷  -- 149 fcmpl
-    unlisted ∷  -- 150 fcmpg
-    unlisted ∷  -- 151 dcmpl
-    unlisted ∷  -- 152 dcmpg
+    does (int value ∷ [] ⇒ long result ∷ []) ∷  -- 133 i2l
+    does (int value ∷ [] ⇒ float result ∷ []) ∷  -- 134 i2f
+    does (int value ∷ [] ⇒ double result ∷ []) ∷  -- 135 i2d
+    does (long value ∷ [] ⇒ int result ∷ []) ∷  -- 136 l2i
+    does (long value ∷ [] ⇒ float result ∷ []) ∷  -- 137 l2f
+    does (long value ∷ [] ⇒ double result ∷ []) ∷  -- 138 l2d
+    does (float value ∷ [] ⇒ int result ∷ []) ∷  -- 139 f2i
+    does (float value ∷ [] ⇒ long result ∷ []) ∷  -- 140 f2l
+    does (float value ∷ [] ⇒ double result ∷ []) ∷  -- 141 f2d
+    does (double value ∷ [] ⇒ int result ∷ []) ∷  -- 142 d2i
+    does (double value ∷ [] ⇒ long result ∷ []) ∷  -- 143 d2l
+    does (double value ∷ [] ⇒ float result ∷ []) ∷  -- 144 d2f
+    does (int value ∷ [] ⇒ int result ∷ []) ∷  -- 145 i2b
+    does (int value ∷ [] ⇒ int result ∷ []) ∷  -- 146 i2c
+    does (int value ∷ [] ⇒ int result ∷ []) ∷  -- 147 i2s
+    does (long value1 ∷ long value2 ∷ [] ⇒ int result ∷ []) ∷  -- 148 lcmp
+    does (float value1 ∷ float value2 ∷ [] ⇒ int result ∷ []) ∷  -- 149 fcmpl
+    does (float value1 ∷ float value2 ∷ [] ⇒ int result ∷ []) ∷  -- 150 fcmpg
+    does (double value1 ∷ double value2 ∷ [] ⇒ int result ∷ []) ∷  -- 151 dcmpl
+    does (double value1 ∷ double value2 ∷ [] ⇒ int result ∷ []) ∷  -- 152 dcmpg
     unlisted ∷  -- 153 ifeq
     unlisted ∷  -- 154 ifne
     unlisted ∷  -- 155 iflt
@@ -286,7 +307,7 @@ entries =
     unlisted ∷  -- 176 areturn
     unlisted ∷  -- 177 return
     does ([] ⇒ field value ∷ []) ∷  -- 178 getstatic
-    unlisted ∷  -- 179 putstatic
+    does (field value ∷ [] ⇒ []) ∷  -- 179 putstatic
     does (reference objectref ∷ [] ⇒ field value ∷ []) ∷  -- 180 getfield
     does (reference objectref ∷ field value ∷ [] ⇒ []) ∷  -- 181 putfield
     does (reference objectref ∷ parameters args ∷ [] ⇒ returned result ∷ []) ∷  -- 182 invokevirtual
@@ -304,7 +325,7 @@ entries =
     does (reference objectref ∷ [] ⇒ []) ∷  -- 194 monitorenter
     does (reference objectref ∷ [] ⇒ []) ∷  -- 195 monitorexit
     unlisted ∷  -- 196 wide
-    unlisted ∷  -- 197 multianewarray
+    does (dimensions counts ∷ [] ⇒ reference arrayref ∷ []) ∷  -- 197 multianewarray
     unlisted ∷  -- 198 ifnull
     unlisted ∷  -- 199 ifnonnull
     unlisted ∷  -- 200 goto_w
@@ -332,11 +353,11 @@ keyCount = 256
 abbrev pub entryAt : List ℕ → ℕ → Entry
 entryAt code pc = entryOf (keyAt code pc)
 
--- the operands that JVMS lists for an instruction; those of a first form, where it has two
+-- the operands that JVMS lists for an instruction; those of its first form, where it has several
 abbrev pub operandsOf : Entry → List Operand
 operandsOf unlisted = []
 operandsOf (does f) = f .before
-operandsOf (eitherOf f g) = f .before
+operandsOf (eitherOf f others) = f .before
 operandsOf (loads l f) = f .before
 operandsOf (stores l f) = f .before
 operandsOf (increments f) = f .before
