@@ -13,13 +13,13 @@ use Rattle.jvms.specs.Stack.{Operand, slotsOf, slotsIn, nameOf, entryOf, operan
 use Rattle.effects.specs.Agreement.{isDereference, aboveBy, citesMember, DepthAgrees, DepthsAgree}
 use Rattle.effects.specs.Depth.{Rule, ruleOf}
 use Rattle.effects.proofs.Rows.{whereAsked, asked}
-use Rattle.effects.proofs.Weights.{constant, operand-linear, operands-linear, above-linear, alikeForFour, alike-for-all}
+use Rattle.effects.proofs.Weights.{constant, operand-linear, operands-linear, above-linear, alikeForFive, alike-for-all}
 
 abbrev singleFits : Operand → Bool
-singleFits o = alikeForFour (λ c. slotsOf c o) (λ c. 1)
+singleFits o = alikeForFive (λ c. slotsOf c o) (λ c. 1)
 
 abbrev aboveFits : Rule → List Operand → Bool
-aboveFits rule os = alikeForFour (λ c. slotsIn c os) (aboveBy rule)
+aboveFits rule os = alikeForFive (λ c. slotsIn c os) (aboveBy rule)
 
 abbrev operandsFit : Rule → List Operand → Bool
 operandsFit rule [] = false

@@ -11,9 +11,9 @@ use Rattle.basics.proofs.Every.{both-first, both-second}
 use Rattle.jvms.specs.Machine.{run, results}
 use Rattle.jvms.specs.Stack.{Form, Cited, slotsIn}
 use Rattle.effects.specs.Agreement.{takenBy, givenBy, Pushed, FormAgrees}
-use Rattle.effects.specs.Rows.{Row, unmodelled, opaque, aload, aloadOf, carries, keeps, gets, calls}
+use Rattle.effects.specs.Rows.{Row, unmodelled, opaque, aload, aloadOf, carries, keeps, gets, calls, puts, makes}
 use Rattle.effects.proofs.Results.{noneBorne, own-results, placesAre, carried-results}
-use Rattle.effects.proofs.Weights.{operands-linear, taken-linear, given-linear, alikeForFour, alike-for-all}
+use Rattle.effects.proofs.Weights.{operands-linear, taken-linear, given-linear, alikeForFive, alike-for-all}
 
 abbrev pushesFit : Row → Form → Bool
 pushesFit unmodelled form = noneBorne (form .before) (form .after)
@@ -24,12 +24,14 @@ pushesFit (carries taken places) form = placesAre (form .before) (form .after) t
 pushesFit keeps form = noneBorne (form .before) (form .after)
 pushesFit (gets taken) form = noneBorne (form .before) (form .after)
 pushesFit (calls taken) form = noneBorne (form .before) (form .after)
+pushesFit (puts taken) form = noneBorne (form .before) (form .after)
+pushesFit makes form = noneBorne (form .before) (form .after)
 
 abbrev takenFits : Row → Form → Bool
-takenFits row form = alikeForFour (λ c. slotsIn c (form .before)) (takenBy row)
+takenFits row form = alikeForFive (λ c. slotsIn c (form .before)) (takenBy row)
 
 abbrev givenFits : Row → Form → Bool
-givenFits row form = alikeForFour (λ c. slotsIn c (form .after)) (givenBy row)
+givenFits row form = alikeForFive (λ c. slotsIn c (form .after)) (givenBy row)
 
 abbrev pub formFits : Row → Form → Bool
 formFits row form = both (takenFits row form) (both (givenFits row form) (pushesFit row form))
@@ -54,6 +56,8 @@ module _ (form : Form) {Val : Type 0} (cited : Cited) (operands : List Val) (own
   pushes-agree keeps t e size = own-pushed 0 t e
   pushes-agree (gets taken) t e size = own-pushed (cited .field) t e
   pushes-agree (calls taken) t e size = own-pushed (cited .gives) t e
+  pushes-agree (puts taken) t e size = own-pushed 0 t e
+  pushes-agree makes t e size = own-pushed 1 t e
 
 pub form-agrees : (row : Row) (form : Form) → T (formFits row form) → FormAgrees row form
 form-agrees row form t =

@@ -14,7 +14,7 @@ use Rattle.basics.specs.Choice.{pick, both, sameList}
 use Rattle.basics.proofs.Every.{both-first, both-second}
 use Rattle.basics.proofs.Same.{are-same}
 use Rattle.jvms.specs.Machine.{bears, run, slotsNamed, results}
-use Rattle.jvms.specs.Stack.{Name, Operand, int, long, float, double, reference, category1, category2, field, parameters, returned, Cited, slotsOf, slotsIn, nameOf, sameName}
+use Rattle.jvms.specs.Stack.{Name, Operand, int, long, float, double, reference, category1, category2, field, parameters, returned, dimensions, Cited, slotsOf, slotsIn, nameOf, sameName}
 use Rattle.effects.specs.Agreement.{Carried}
 use Rattle.effects.proofs.Weights.{cites}
 
@@ -70,6 +70,7 @@ settled (category2 n) = true
 settled (field n) = false
 settled (parameters n) = false
 settled (returned n) = false
+settled (dimensions n) = false
 
 abbrev pub allSettled : List Operand → Bool
 allSettled [] = true
@@ -86,6 +87,7 @@ settled-slots c d (category2 n) t = refl
 settled-slots c d (field n) t = absurd t
 settled-slots c d (parameters n) t = absurd t
 settled-slots c d (returned n) t = absurd t
+settled-slots c d (dimensions n) t = absurd t
 
 -- to replace each value by another and to take the results: the order of the two does not matter
 module _ {A B : Type 0} (f : A → B) (c d : Cited) where
@@ -166,7 +168,7 @@ module _ {Val : Type 0} (taken : List Val) (absent : Val) where
 abbrev pub placesAre : List Operand → List Operand → ℕ → List ℕ → Bool
 placesAre before after t places =
     both (allSettled before)
-    (both (allBorne before after) (sameList (results (cites 0 0 0) before (fromTop t) (λ k. k) 0 after) places))
+    (both (allBorne before after) (sameList (results (cites 0 0 0 0) before (fromTop t) (λ k. k) 0 after) places))
 
 -- and so on values of any type
 pub carried-results :
@@ -174,8 +176,8 @@ pub carried-results :
     T (placesAre before after (length taken) places) → Carried places taken (results c before taken own 0 after)
 carried-results c before after taken own places t absent =
     let t1 = both-second (allSettled before) _ t in
-    let numbers : List ℕ = results (cites 0 0 0) before (fromTop (length taken)) (λ k. k) 0 after in
+    let numbers : List ℕ = results (cites 0 0 0 0) before (fromTop (length taken)) (λ k. k) 0 after in
     ap (λ (l : List _). results c before l own 0 after) (sym (all-slots taken absent))
-    ∙ results-map (nth taken absent) (cites 0 0 0) c before (fromTop (length taken)) (λ k. k) 0 own 0 after
+    ∙ results-map (nth taken absent) (cites 0 0 0 0) c before (fromTop (length taken)) (λ k. k) 0 own 0 after
     (both-first (allSettled before) _ t) (both-first (allBorne before after) _ t1)
     ∙ ap (map (nth taken absent)) (are-same numbers places (both-second (allBorne before after) _ t1))

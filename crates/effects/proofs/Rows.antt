@@ -1,5 +1,4 @@
--- Document 01's rows agree with JVMS, opcode by opcode: one test that antt computes over all of them, and what it says.
--- The same test serves any other table of rows.
+-- The rows of both models agree with JVMS, opcode by opcode: one test of a table that antt computes over all of them, and what it says.
 -- Assumes nothing.
 use Prim.Native.Nat.{ℕ, _<_}
 use native.Mathlib.Omega.{arith}
@@ -8,7 +7,7 @@ use mathlib.Core.Bool.{Bool, true, false}
 use mathlib.Core.Logic.{⊎-elim}
 use mathlib.Core.List.{List, [], _∷_, List·Memᴰ, List·Memᴰ·not-nil, List·Memᴰ·cases-cons}
 use lib.Dec.{T, eqb, ltb, eqb→eq, ltb→lt}
-use Rattle.basics.specs.Choice.{both, alike, between}
+use Rattle.basics.specs.Choice.{pick, both, alike, between}
 use Rattle.basics.proofs.Every.{both-first, both-second, alike-is, every, every-at}
 use Rattle.jvms.specs.Extent.{takes, extentBy, extentAt}
 use Rattle.jvms.specs.Format.{Format, tableswitch, lookupswitch, wide, reserved, formatOf}
@@ -16,8 +15,9 @@ use Rattle.jvms.specs.Format.{fixed as fixedFormat}
 use Rattle.jvms.specs.Stack.{objectref, reference, Form, _⇒_, Local, indexed, numbered, does, entryOf, keyAt, keyCount}
 use Rattle.fixed.specs.Fixed.{fixedBy, fixedLength, sizeAt}
 use Rattle.effects.specs.Agreement.{isModelled, hasEffect, within, FormAgrees, formsOf, hasForm, localOf, Details, EffectAgrees}
-use Rattle.effects.specs.Agreement.{Agreeing, RowsAgree, Sized, RowsSized, documented, ModelsDocumented}
-use Rattle.effects.specs.Rows.{Row, unmodelled, opaque, aload, aloadOf, carries, keeps, gets, calls, rowOf}
+use Rattle.effects.specs.Agreement.{Agreeing, ModelAgrees, Sized, ModelSized, documented, ModelsDocumented, added, ModelsAdded}
+use Rattle.effects.specs.Rows.{Row, unmodelled, opaque, aload, aloadOf, carries, keeps, gets, calls, puts, makes, orRow, rowOf, addedRow, fullRowOf}
+use Rattle.effects.specs.declared.Model.the-variants.{Document, Full}
 use Rattle.effects.proofs.Forms.{formFits, form-agrees}
 
 -- ---- a row and an opcode
@@ -70,6 +70,8 @@ detailsFit (carries taken places) op = within taken places
 detailsFit keeps op = true
 detailsFit (gets taken) op = between 178 181 op
 detailsFit (calls taken) op = between 182 185 op
+detailsFit (puts taken) op = between 178 181 op
+detailsFit makes op = eqb op 197
 
 details-agree : (row : Row) (op : ℕ) → T (detailsFit row op) → Details row op
 details-agree unmodelled op t = tt
@@ -80,6 +82,8 @@ details-agree (carries taken places) op t = t
 details-agree keeps op t = tt
 details-agree (gets taken) op t = t
 details-agree (calls taken) op t = t
+details-agree (puts taken) op t = t
+details-agree makes op t = t
 
 abbrev effectFits : Row → ℕ → Bool
 effectFits row op =
@@ -107,6 +111,8 @@ keepsFits (carries taken places) op = true
 keepsFits keeps op = eqb op 192
 keepsFits (gets taken) op = true
 keepsFits (calls taken) op = true
+keepsFits (puts taken) op = true
+keepsFits makes op = true
 
 checkcast-is : (op : ℕ) → op ≡ 192 → entryOf op ≡ does (reference objectref ∷ [] ⇒ reference objectref ∷ [])
 unfolding entryOf
@@ -189,16 +195,22 @@ module _ (rows : ℕ → Row) (passed : T (every (λ key. rowFits (rows key) key
   unfolding fixedLength
   passed-sized key below some = fixed-some (formatOf key) (is-fixed key below some)
 
--- document 01's passes
+-- both pass
 document-rows-fit : T (every (λ key. rowFits (rowOf key) key) keyCount)
 unfolding rowOf entryOf formatOf
 document-rows-fit = tt
 
-pub rows-agree : RowsAgree
-rows-agree = passed-agrees rowOf document-rows-fit
+full-rows-fit : T (every (λ key. rowFits (fullRowOf key) key) keyCount)
+unfolding rowOf addedRow fullRowOf entryOf formatOf
+full-rows-fit = tt
 
-pub rows-sized : RowsSized
-rows-sized = passed-sized rowOf document-rows-fit
+pub model-agrees : ModelAgrees
+model-agrees Document = passed-agrees rowOf document-rows-fit
+model-agrees Full = passed-agrees fullRowOf full-rows-fit
+
+pub model-sized : ModelSized
+model-sized Document = passed-sized rowOf document-rows-fit
+model-sized Full = passed-sized fullRowOf full-rows-fit
 
 -- document 01 models the opcodes that it lists, and no other
 pub models-documented : ModelsDocumented
@@ -206,3 +218,27 @@ unfolding rowOf
 models-documented op below =
     alike-is (isModelled (rowOf op)) (documented op)
     (every-at (λ k. alike (isModelled (rowOf k)) (documented k)) 256 tt op below)
+
+-- and the full model these and the ones that are added
+
+or-kept : (row other : Row) → T (isModelled row) → orRow row other ≡ row
+or-kept unmodelled other t = absurd t
+or-kept (opaque taken given) other t = refl
+or-kept aload other t = refl
+or-kept (aloadOf local) other t = refl
+or-kept (carries taken places) other t = refl
+or-kept keeps other t = refl
+or-kept (gets taken) other t = refl
+or-kept (calls taken) other t = refl
+or-kept (puts taken) other t = refl
+or-kept makes other t = refl
+
+pub models-added : ModelsAdded
+unfolding rowOf addedRow fullRowOf
+models-added =
+    record {
+      exactly = λ op below.
+          alike-is (isModelled (fullRowOf op)) (pick (documented op) true (added op))
+          (every-at (λ k. alike (isModelled (fullRowOf k)) (pick (documented k) true (added k))) 256 tt op below);
+      extends = λ op t. or-kept (rowOf op) (addedRow op) t;
+    }

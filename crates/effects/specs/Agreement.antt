@@ -1,7 +1,7 @@
--- Document 01's rows and depths against the operands and results of JVMS.
+-- The rows of both models and document 01's depths against the operands and results of JVMS.
 --
--- The claim (`RowsAgree`, below): at every opcode that document 01 models, for every member that an instruction may cite and for
--- either form of an opcode that has two, the slots that its row takes and gives are those of JVMS's operands and results, and each
+-- The claim (`ModelAgrees`, below): at every opcode that a model has, for every member that an instruction may cite, any dimensions and
+-- each form of an opcode that has several, the slots that its row takes and gives are those of JVMS's operands and results, and each
 -- slot that it carries along is the operand that JVMS puts there. `checkcast` alone is apart: its row keeps the list. And
 -- (`DepthsAgree`) the depth of a reference is the number of slots above the operand that JVMS names objectref or arrayref.
 --
@@ -18,7 +18,7 @@ use Prim.Native.Nat.{ℕ, _+_, _-_, _<_}
 use mathlib.Core.Path.{_≡_}
 use mathlib.Core.Bool.{Bool, true, false}
 use mathlib.Core.List.{List, [], _∷_, map, List·Memᴰ}
-use lib.Dec.{T, leb}
+use lib.Dec.{T, eqb, leb}
 use lib.ListN.{length, getD}
 use Rattle.basics.specs.Choice.{pick, both, oneOf, between}
 use Rattle.jvms.specs.Extent.{takes, extentAt}
@@ -27,7 +27,8 @@ use Rattle.jvms.specs.Stack.{objectref, Operand, reference, Form, _⇒_, Local,
 use Rattle.jvms.specs.Stack.{Cited, slotsOf, slotsIn, nameOf, entryOf, keyAt, keyCount, operandsOf}
 use Rattle.fixed.specs.Fixed.{fixedLength, sizeAt}
 use Rattle.effects.specs.Depth.{Rule, none, fixed, reads, writes, invokes, ruleOf}
-use Rattle.effects.specs.Rows.{Row, unmodelled, opaque, aload, aloadOf, carries, keeps, gets, calls, rowOf}
+use Rattle.effects.specs.Rows.{Row, unmodelled, opaque, aload, aloadOf, carries, keeps, gets, calls, puts, makes, rowOf, fullRowOf, rowsOf}
+use Rattle.effects.specs.declared.Model.{Model}
 
 -- ---- what a row says
 
@@ -40,6 +41,8 @@ isModelled (carries taken places) = true
 isModelled keeps = true
 isModelled (gets taken) = true
 isModelled (calls taken) = true
+isModelled (puts taken) = true
+isModelled makes = true
 
 -- modelled, and not `checkcast`, which document 01 lets keep the list and ask for no slot
 abbrev pub hasEffect : Row → Bool
@@ -51,8 +54,10 @@ hasEffect (carries taken places) = true
 hasEffect keeps = false
 hasEffect (gets taken) = true
 hasEffect (calls taken) = true
+hasEffect (puts taken) = true
+hasEffect makes = true
 
--- the slots that a row takes and those that it gives, where the cited member has so many
+-- the slots that a row takes and those that it gives, where the cited member has so many and there are so many dimensions
 abbrev pub takenBy : Row → Cited → ℕ
 takenBy unmodelled cited = 0
 takenBy (opaque taken given) cited = taken
@@ -62,6 +67,8 @@ takenBy (carries taken places) cited = taken
 takenBy keeps cited = 0
 takenBy (gets taken) cited = taken
 takenBy (calls taken) cited = taken + cited .args
+takenBy (puts taken) cited = taken + cited .field
+takenBy makes cited = cited .dims
 
 abbrev pub givenBy : Row → Cited → ℕ
 givenBy unmodelled cited = 0
@@ -72,6 +79,8 @@ givenBy (carries taken places) cited = length places
 givenBy keeps cited = 0
 givenBy (gets taken) cited = cited .field
 givenBy (calls taken) cited = cited .gives
+givenBy (puts taken) cited = 0
+givenBy makes cited = 1
 
 -- What a row says of the slots that are pushed, where `taken` were taken: each is one of those, by its number from the top;
 -- or each is the instruction's own.
@@ -87,6 +96,8 @@ Pushed (carries t places) cited taken own pushed = Carried places taken pushed
 Pushed keeps cited taken own pushed = pushed ≡ []
 Pushed (gets t) cited taken own pushed = pushed ≡ run (cited .field) 0 own
 Pushed (calls t) cited taken own pushed = pushed ≡ run (cited .gives) 0 own
+Pushed (puts t) cited taken own pushed = pushed ≡ []
+Pushed makes cited taken own pushed = pushed ≡ run 1 0 own
 
 -- every place is that of a slot that is taken
 abbrev pub within : ℕ → List ℕ → Bool
@@ -104,11 +115,11 @@ pub record FormAgrees (row : Row) (form : Form) : Type 1 where
       (Val : Type 0) (cited : Cited) (operands : List Val) (own : ℕ → Val) → length operands ≡ takenBy row cited →
       Pushed row cited operands own (results cited (form .before) operands own 0 (form .after))
 
--- the forms of an entry, both where it has two; none where control does not go on
+-- the forms of an entry, all where it has several; none where control does not go on
 abbrev pub formsOf : Entry → List Form
 formsOf unlisted = []
 formsOf (does f) = f ∷ []
-formsOf (eitherOf f g) = f ∷ g ∷ []
+formsOf (eitherOf f others) = f ∷ others
 formsOf (loads l f) = f ∷ []
 formsOf (stores l f) = f ∷ []
 formsOf (increments f) = f ∷ []
@@ -122,13 +133,13 @@ hasForm (f ∷ fs) = true
 abbrev pub localOf : Entry → List Local
 localOf unlisted = []
 localOf (does f) = []
-localOf (eitherOf f g) = []
+localOf (eitherOf f others) = []
 localOf (loads l f) = l ∷ []
 localOf (stores l f) = []
 localOf (increments f) = []
 localOf (throws os) = []
 
--- which local is loaded, that places are those of slots taken, that the opcode cites a field or a method
+-- which local is loaded, that places are those of slots taken, that the opcode cites a field or a method, or has dimensions
 abbrev pub Details : Row → ℕ → Type 0
 Details unmodelled op = Unit {0}
 Details (opaque taken given) op = Unit {0}
@@ -138,6 +149,8 @@ Details (carries taken places) op = T (within taken places)
 Details keeps op = Unit {0}
 Details (gets taken) op = T (between 178 181 op)
 Details (calls taken) op = T (between 182 185 op)
+Details (puts taken) op = T (between 178 181 op)
+Details makes op = T (eqb op 197)
 
 pub record EffectAgrees (op : ℕ) (row : Row) : Type 1 where
   pub some : T (hasForm (formsOf (entryOf op)))
@@ -155,16 +168,16 @@ pub record Agreeing (rows : ℕ → Row) : Type 1 where
       (code : List ℕ) (pc : ℕ) → keyAt code pc < keyCount → T (isModelled (rows (keyAt code pc))) →
       extentAt code pc ≡ takes (sizeAt code pc)
 
--- document 01's
-abbrev pub RowsAgree : Type 1
-RowsAgree = Agreeing rowOf
+-- those of both models
+abbrev pub ModelAgrees : Type 1
+ModelAgrees = (model : Model) → Agreeing (rowsOf model)
 
 -- every modelled instruction has a byte, so a walk that goes on comes nearer to the fault
 abbrev pub Sized : (ℕ → Row) → Type 0
 Sized rows = (key : ℕ) → key < keyCount → T (isModelled (rows key)) → 0 < fixedLength key
 
-abbrev pub RowsSized : Type 0
-RowsSized = Sized rowOf
+abbrev pub ModelSized : Type 0
+ModelSized = (model : Model) → Sized (rowsOf model)
 
 -- "0 to 78 (constants, loads, array loads, stores to locals), `pop`, `pop2`, `dup`, `dup2`, `swap`, `iinc`, `checkcast`,
 -- `instanceof`, `new`, `newarray`, `anewarray`, `arraylength`, `getstatic`, `getfield`, and the four invokes 182 to 185. All
@@ -176,6 +189,21 @@ documented op =
 
 abbrev pub ModelsDocumented : Type 0
 ModelsDocumented = (op : ℕ) → op < 256 → isModelled (rowOf op) ≡ documented op
+
+-- "arithmetic (96 to 131), conversions, comparisons (148 to 152), stores to arrays, `putfield`, `putstatic`, the four missing forms
+-- (90, 91, 93, 94), `monitorenter`, `monitorexit` and `multianewarray`" (document 02, request 1); the conversions are 133 to 147
+abbrev pub added : ℕ → Bool
+added op =
+    pick (between 96 131 op) true
+    (pick (between 133 147 op) true
+    (pick (between 148 152 op) true
+    (pick (between 79 86 op) true (oneOf (181 ∷ 179 ∷ 90 ∷ 91 ∷ 93 ∷ 94 ∷ 194 ∷ 195 ∷ 197 ∷ []) op))))
+
+-- the full model has these and document 01's, "`invokedynamic` still fails", and so does all else; where document 01 models an opcode, its
+-- row is the full model's
+pub record ModelsAdded : Type 0 where
+  pub exactly : (op : ℕ) → op < 256 → isModelled (fullRowOf op) ≡ pick (documented op) true (added op)
+  pub extends : (op : ℕ) → T (isModelled (rowOf op)) → fullRowOf op ≡ rowOf op
 
 -- ---- a depth against what JVMS says
 

@@ -1,9 +1,11 @@
--- What the walk does at an opcode, as a row (document 01, "The walk").
+-- What the walk does at an opcode, as a row: by document 01 ("The walk"), and by the full model of document 02, request 1.
 -- Assumes nothing.
 use Prim.Native.Nat.{ℕ, _-_}
 use mathlib.Core.List.{List, [], _∷_}
 use lib.Dec.{eqb}
 use Rattle.basics.specs.Choice.{pick, oneOf, between}
+use Rattle.effects.specs.declared.Model.{Model}
+use Rattle.effects.specs.declared.Model.the-variants.{Document, Full}
 
 pub data Row : Type 0 where
   -- "All else fails"
@@ -21,6 +23,10 @@ pub data Row : Type 0 where
   gets : ℕ → Row
   -- takes so many slots and the arguments of the method that it cites, and pushes those of its return
   calls : ℕ → Row
+  -- takes so many slots and those of the field that it cites
+  puts : ℕ → Row
+  -- takes as many slots as its dimensions byte says, which must not be 0, and pushes an opaque one
+  makes : Row
 
 -- document 01's model
 unfoldable pub rowOf : ℕ → Row
@@ -60,3 +66,58 @@ rowOf op =
     (pick (eqb op 192) keeps
     (pick (eqb op 193) (opaque 1 1)
     unmodelled)))))))))))))))))))))))))
+
+-- What the full model adds: "arithmetic (96 to 131), conversions, comparisons (148 to 152), stores to arrays, `putfield`,
+-- `putstatic`, the four missing forms (90, 91, 93, 94), `monitorenter`, `monitorexit` and `multianewarray`" (document 02, request 1).
+unfoldable pub addedRow : ℕ → Row
+addedRow op =
+    -- stores to arrays
+    pick (oneOf (80 ∷ 82 ∷ []) op) (opaque 4 0)
+    (pick (between 79 86 op) (opaque 3 0)
+    -- dup_x1, dup_x2, dup2_x1, dup2_x2
+    (pick (eqb op 90) (carries 2 (1 ∷ 2 ∷ 1 ∷ []))
+    (pick (eqb op 91) (carries 3 (1 ∷ 3 ∷ 2 ∷ 1 ∷ []))
+    (pick (eqb op 93) (carries 3 (2 ∷ 1 ∷ 3 ∷ 2 ∷ 1 ∷ []))
+    (pick (eqb op 94) (carries 4 (2 ∷ 1 ∷ 4 ∷ 3 ∷ 2 ∷ 1 ∷ []))
+    -- arithmetic: the four negations, the three shifts of a long, the others of long and double, those of int and float
+    (pick (oneOf (116 ∷ 118 ∷ []) op) (opaque 1 1)
+    (pick (oneOf (117 ∷ 119 ∷ []) op) (opaque 2 2)
+    (pick (oneOf (121 ∷ 123 ∷ 125 ∷ []) op) (opaque 3 2)
+    (pick (oneOf (97 ∷ 99 ∷ 101 ∷ 103 ∷ 105 ∷ 107 ∷ 109 ∷ 111 ∷ 113 ∷ 115 ∷ 127 ∷ 129 ∷ 131 ∷ []) op) (opaque 4 2)
+    (pick (between 96 131 op) (opaque 2 1)
+    -- conversions: of one slot to two, of two to one, of two to two, of one to one
+    (pick (oneOf (133 ∷ 135 ∷ 140 ∷ 141 ∷ []) op) (opaque 1 2)
+    (pick (oneOf (136 ∷ 137 ∷ 142 ∷ 144 ∷ []) op) (opaque 2 1)
+    (pick (oneOf (138 ∷ 143 ∷ []) op) (opaque 2 2)
+    (pick (between 133 147 op) (opaque 1 1)
+    -- comparisons: of long and double, of float
+    (pick (oneOf (148 ∷ 151 ∷ 152 ∷ []) op) (opaque 4 1)
+    (pick (between 149 150 op) (opaque 2 1)
+    -- putstatic, putfield, monitorenter, monitorexit, multianewarray
+    (pick (eqb op 179) (puts 0)
+    (pick (eqb op 181) (puts 1)
+    (pick (between 194 195 op) (opaque 1 0)
+    (pick (eqb op 197) makes
+    unmodelled))))))))))))))))))))
+
+-- the first where it models, else the second
+abbrev pub orRow : Row → Row → Row
+orRow unmodelled other = other
+orRow (opaque taken given) other = opaque taken given
+orRow aload other = aload
+orRow (aloadOf local) other = aloadOf local
+orRow (carries taken places) other = carries taken places
+orRow keeps other = keeps
+orRow (gets taken) other = gets taken
+orRow (calls taken) other = calls taken
+orRow (puts taken) other = puts taken
+orRow makes other = makes
+
+-- the full model
+unfoldable pub fullRowOf : ℕ → Row
+fullRowOf op = orRow (rowOf op) (addedRow op)
+
+-- the rows of a model
+abbrev pub rowsOf : Model → ℕ → Row
+rowsOf Document op = rowOf op
+rowsOf Full op = fullRowOf op

@@ -1,1 +1,10 @@
-// The rows of the walk and the depths of causes, held against JVMS; there is no code here.
+// The rows of the walk and the depths of causes, held against JVMS. All of it stands in specs/; here is the choice between the two
+// tables of rows.
+
+// Which instructions a walk models.
+pub enum Model {
+    // Those of document 01.
+    Document,
+    // These and what document 02, request 1 adds: arithmetic, conversions, comparisons, array stores, field stores and more.
+    Full,
+}
