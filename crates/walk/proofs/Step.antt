@@ -15,7 +15,7 @@ use Rattle.jvms.proofs.Keys.{key-below}
 use Rattle.fixed.specs.Fixed.{sizeAt}
 use Rattle.effects.specs.Agreement.{isModelled, Sized}
 use Rattle.effects.specs.Lookup.{Lookup}
-use Rattle.effects.specs.Rows.{Row, unmodelled, opaque, aload, aloadOf, carries, keeps, gets, calls}
+use Rattle.effects.specs.Rows.{Row, unmodelled, opaque, aload, aloadOf, carries, keeps, gets, calls, puts, makes}
 use Rattle.walk.specs.Walk.{Reason, pastEnd, tooLarge, tooFew, Marks, Push, blanks, load, carried, unread, does, effectBy}
 use Rattle.walk.specs.Walk.{Made, refused, made, placed, pushed, applied, stops, goes, passes, landed, step}
 
@@ -89,14 +89,14 @@ module _
       by-fault :
           (list : List A) → effect ≡ made list → (b : Bool) → leb (pc + size) fault ≡ b →
           pick b (goes (pc + size) list) (passes list) ≡ goes next slots → Stepped next slots
-      by-fault list makes true h q =
+      by-fault list is true h q =
           let lands : next ≡ pc + size = cc in
           record { makes = cc; lands = lands; notPast = omega (arith, lands, leb-true (pc + size) fault h) }
-      by-fault list makes false h q = let z : _≡_ {A = ℕ} 0 1 = cc in absurd (omega arith)
+      by-fault list is false h q = let z : _≡_ {A = ℕ} 0 1 = cc in absurd (omega arith)
 
       by-made : (x : Made A) → effect ≡ x → landed fault (pc + size) x ≡ goes next slots → Stepped next slots
-      by-made (refused reason) makes q = let z : _≡_ {A = ℕ} 0 1 = cc in absurd (omega arith)
-      by-made (made list) makes q = by-fault list makes (leb (pc + size) fault) refl q
+      by-made (refused reason) is q = let z : _≡_ {A = ℕ} 0 1 = cc in absurd (omega arith)
+      by-made (made list) is q = by-fault list is (leb (pc + size) fault) refl q
 
       by-end : (b : Bool) → pick b (landed fault (pc + size) effect) (stops pastEnd) ≡ goes next slots → Stepped next slots
       by-end true q = by-made effect refl q
@@ -113,6 +113,8 @@ module _
   made-modelled keeps slots e = tt
   made-modelled (gets takes) slots e = tt
   made-modelled (calls takes) slots e = tt
+  made-modelled (puts takes) slots e = tt
+  made-modelled makes slots e = tt
 
   pub goes-modelled :
       (next : ℕ) (slots : List A) → step marks rows lookup code fault pc list ≡ goes next slots → T (isModelled (rows (keyAt code pc)))

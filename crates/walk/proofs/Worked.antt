@@ -3,10 +3,30 @@
 use mathlib.Core.Path.{refl}
 use Rattle.jvms.specs.Format.{formatOf}
 use Rattle.fixed.specs.Fixed.{fixedLength}
-use Rattle.effects.specs.Rows.{rowOf}
+use Rattle.effects.specs.Rows.{rowOf, addedRow, fullRowOf}
 use Rattle.walk.specs.Walk.{step, walkFrom, walk}
 use Rattle.walk.specs.Worked.{Worked}
 
 pub worked : Worked
-unfolding rowOf formatOf fixedLength step walkFrom walk
-worked = record { loads = refl; others = refl; results = refl; carries = refl; unmodelled = refl; passing = refl }
+unfolding rowOf addedRow fullRowOf formatOf fixedLength step walkFrom walk
+worked =
+    record {
+      loads = refl;
+      others = refl;
+      results = refl;
+      carries = refl;
+      unmodelled = refl;
+      passing = refl;
+      shifts = refl;
+      turns = refl;
+      storesIn = refl;
+      dupX1 = refl;
+      dupX2 = refl;
+      dup2X1 = refl;
+      dup2X2 = refl;
+      makesArrays = refl;
+      noDimension = refl;
+      cutDimension = refl;
+      tooFewSlots = refl;
+      dynamic = refl;
+    }

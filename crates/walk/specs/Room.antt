@@ -8,7 +8,9 @@ use lib.Dec.{leb, ltb}
 use lib.ListN.{length, replicate}
 use Rattle.basics.specs.Choice.{pick}
 use Rattle.effects.specs.Lookup.{Lookup, lookupIn}
-use Rattle.effects.specs.Rows.{Row, rowOf}
+use Rattle.effects.specs.Rows.{Row, rowsOf}
+use Rattle.effects.specs.declared.Model.{Model}
+use Rattle.effects.specs.declared.Model.the-variants.{Document}
 use Rattle.walk.specs.Walk.{Marks, cells, Outcome, stops, goes, passes, Walked, done, failed, step, walk}
 use Rattle.walk.specs.declared.Walk.{Walk}
 use Rattle.walk.specs.declared.Walk.the-variants.{Done, Failed, NoRoom}
@@ -50,9 +52,12 @@ blockWalkBy rows code members count leader fault room =
     judged room (completed cells rows (lookupIn members count) code fault leader)
     (walk cells rows (lookupIn members count) code fault leader)
 
--- document 01's
-unfoldable pub blockWalk : List ℕ → List ℕ → ℕ → ℕ → ℕ → ℕ → Roomed ℕ
-blockWalk code members count leader fault room = blockWalkBy rowOf code members count leader fault room
+-- by the rows of a model, and by document 01's
+unfoldable pub blockWalkIn : Model → List ℕ → List ℕ → ℕ → ℕ → ℕ → ℕ → Roomed ℕ
+blockWalkIn model code members count leader fault room = blockWalkBy (rowsOf model) code members count leader fault room
+
+abbrev pub blockWalk : List ℕ → List ℕ → ℕ → ℕ → ℕ → ℕ → Roomed ℕ
+blockWalk code members count leader fault room = blockWalkIn Document code members count leader fault room
 
 -- what the walk alone answers
 abbrev pub answerOf : Roomed ℕ → Walk
@@ -70,10 +75,15 @@ cellsOf room (lacks index) = replicate room 0
 cellsOf room (fits (done slots count)) = shown room slots
 cellsOf room (fits (failed count index reason)) = replicate room 0
 
--- what a walk over the cells of a lent stack answers, and the cells that it leaves there
-pub record Walks (code members : List ℕ) (count leader fault : ℕ) (stack : List ℕ) (answer : Walk) (left : List ℕ) : Type 0 where
-  pub answers : answer ≡ answerOf (blockWalk code members count leader fault (length stack))
-  pub leaves : left ≡ cellsOf (length stack) (blockWalk code members count leader fault (length stack))
+-- what a walk in a model over the cells of a lent stack answers, and the cells that it leaves there
+pub record WalksIn (model : Model) (code members : List ℕ) (count leader fault : ℕ) (stack : List ℕ) (answer : Walk)
+    (left : List ℕ) : Type 0 where
+  pub answers : answer ≡ answerOf (blockWalkIn model code members count leader fault (length stack))
+  pub leaves : left ≡ cellsOf (length stack) (blockWalkIn model code members count leader fault (length stack))
+
+-- in document 01's
+abbrev pub Walks : List ℕ → List ℕ → ℕ → ℕ → ℕ → List ℕ → Walk → List ℕ → Type 0
+Walks code members count leader fault stack answer left = WalksIn Document code members count leader fault stack answer left
 
 -- an answer as numbers: 0 with height and count, 1 with the count, document 01's 3 with the index
 unfoldable pub numbered : Walk → List ℕ

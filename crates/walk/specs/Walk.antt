@@ -17,7 +17,7 @@ use Rattle.descriptor.specs.declared.Params.the-variants.{Read, Unreadable as N
 use Rattle.descriptor.specs.declared.Slots.{Slots}
 use Rattle.descriptor.specs.declared.Slots.the-variants.{Slots as SlotsOf, Unreadable as NoSlots}
 use Rattle.effects.specs.Lookup.{Known, missing, known, Lookup}
-use Rattle.effects.specs.Rows.{Row, unmodelled, opaque, aload, aloadOf, carries, keeps, gets, calls}
+use Rattle.effects.specs.Rows.{Row, unmodelled, opaque, aload, aloadOf, carries, keeps, gets, calls, puts, makes}
 
 -- why a walk fails. A step tests in this order; `overshot` is the walk's own.
 pub data Reason : Type 0 where
@@ -51,6 +51,14 @@ abbrev pub getting : ℕ → Known → Effect
 getting takes missing = fails missingMember
 getting takes (known descriptor) = does takes (blanks (fieldSlots descriptor))
 
+abbrev pub putting : ℕ → Known → Effect
+putting takes missing = fails missingMember
+putting takes (known descriptor) = does (takes + fieldSlots descriptor) (blanks 0)
+
+-- "`multianewarray` (dimension 0 fails)" (document 02, request 1)
+abbrev pub making : ℕ → Effect
+making dimensions = pick (eqb dimensions 0) (fails notModelled) (does dimensions (blanks 1))
+
 abbrev pub returning : Slots → Push
 returning (SlotsOf n) = blanks n
 returning NoSlots = unread unreadableReturn
@@ -64,7 +72,7 @@ calling takes missing = fails missingMember
 calling takes (known descriptor) = called takes (parameters descriptor) (returnSlots descriptor)
 
 module _ (lookup : Lookup) (code : List ℕ) (pc : ℕ) where
-  -- "Only `aload`'s local and member indexes are read, failing when cut"
+  -- "Only `aload`'s local and member indexes are read, failing when cut"; in the full model the dimensions byte too
   abbrev pub uncut : ℕ → Effect → Effect
   uncut last effect = pick (ltb last (length code)) effect (fails cut)
 
@@ -77,6 +85,8 @@ module _ (lookup : Lookup) (code : List ℕ) (pc : ℕ) where
   effectBy keeps = does 0 (blanks 0)
   effectBy (gets takes) = uncut (pc + 2) (getting takes (lookup 0 (u16At code (pc + 1))))
   effectBy (calls takes) = uncut (pc + 2) (calling takes (lookup 1 (u16At code (pc + 1))))
+  effectBy (puts takes) = uncut (pc + 2) (putting takes (lookup 0 (u16At code (pc + 1))))
+  effectBy makes = uncut (pc + 3) (making (byteAt code (pc + 3)))
 
 -- ---- a step
 

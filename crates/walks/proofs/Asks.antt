@@ -12,7 +12,7 @@ use Rattle.basics.specs.Choice.{pick}
 use Rattle.jvms.specs.Stack.{keyAt}
 use Rattle.fixed.specs.Fixed.{sizeAt}
 use Rattle.effects.specs.Lookup.{Lookup}
-use Rattle.effects.specs.Rows.{Row, unmodelled, opaque, aload, aloadOf, carries, keeps, gets, calls}
+use Rattle.effects.specs.Rows.{Row, unmodelled, opaque, aload, aloadOf, carries, keeps, gets, calls, puts, makes}
 use Rattle.walk.specs.Room.{completing, completedFrom, completed, Roomed, lacks, judged}
 use Rattle.walk.specs.Walk.{Marks, pastEnd, Effect, effectBy, applied, landed}
 use Rattle.walk.specs.Walk.{Outcome, stops, goes, passes, step, ended, after, walkFrom, walk}
@@ -29,6 +29,8 @@ module _ {A : Type 0} (marks : Marks A) (rows : ℕ → Row) (one other : Lookup
   effect-same pc keeps a = refl
   effect-same pc (gets taken) a = rw a
   effect-same pc (calls taken) a = rw a
+  effect-same pc (puts taken) a = rw a
+  effect-same pc makes a = refl
 
   step-same :
       (pc : ℕ) (list : List A) → AlikeFor (rows (keyAt code pc)) one other code pc →

@@ -9,7 +9,7 @@ use Rattle.basics.specs.Bytes.{u16At}
 use Rattle.jvms.specs.Stack.{keyAt}
 use Rattle.effects.specs.Agreement.{isModelled}
 use Rattle.effects.specs.Lookup.{Lookup}
-use Rattle.effects.specs.Rows.{Row, unmodelled, opaque, aload, aloadOf, carries, keeps, gets, calls}
+use Rattle.effects.specs.Rows.{Row, unmodelled, opaque, aload, aloadOf, carries, keeps, gets, calls, puts, makes}
 use Rattle.walk.specs.Room.{completed, judged}
 use Rattle.walk.specs.Walk.{Marks, done, walk}
 use Rattle.walks.specs.Comes.{ComesIn}
@@ -41,6 +41,8 @@ AlikeFor (carries taken places) one other code pc = Unit {0}
 AlikeFor keeps one other code pc = Unit {0}
 AlikeFor (gets taken) one other code pc = one 0 (u16At code (pc + 1)) ≡ other 0 (u16At code (pc + 1))
 AlikeFor (calls taken) one other code pc = one 1 (u16At code (pc + 1)) ≡ other 1 (u16At code (pc + 1))
+AlikeFor (puts taken) one other code pc = one 0 (u16At code (pc + 1)) ≡ other 0 (u16At code (pc + 1))
+AlikeFor makes one other code pc = Unit {0}
 
 -- What the instructions ask for that the walk comes to, before it stops or lacks room, decides it. Other members change nothing.
 abbrev pub WalkAsks : Type 1
