@@ -1,6 +1,7 @@
-// The walk of a block over a lent stack of cells (document 01, "The walk").
+// The walk of a block over a lent stack of cells, in either model (document 01, "The walk"; document 02, request 1).
 use cell::Cell;
 use cell::clear;
+use effects::Model;
 use instruction::Effect;
 use walk::Walk;
 ghost use mathlib.Core.Path.{_≡_};
@@ -11,9 +12,9 @@ ghost use Rattle.basics.specs.Choice.{pick};
 ghost use Rattle.fixed.specs.Fixed.{FixedLengths};
 ghost use Rattle.index.specs.Index.{Indexed};
 ghost use Rattle.effects.specs.Lookup.{lookupIn};
-ghost use Rattle.effects.specs.Rows.{rowOf};
-ghost use Rattle.row.specs.Code.{dupPlaces, dup2Places, swapPlaces};
-ghost use Rattle.walk.specs.Room.{Walks};
+ghost use Rattle.effects.specs.Rows.{rowsOf};
+ghost use Rattle.row.specs.Code.{copyPlaces, swapPlaces};
+ghost use Rattle.walk.specs.Room.{Walks, WalksIn};
 ghost use Rattle.walk.specs.Walk.{cells, blanks, load as loadPush, carried, does, applied, step as stepAt};
 ghost use Rattle.instruction.specs.Code.{effectFrom};
 ghost use Rattle.block.specs.Inner.{Clean, Laid, Stepped};
@@ -72,35 +73,23 @@ fn push_load(stack: &mut [u64], height: usize, pc: usize, local: usize) -> Heigh
     Height::High(height + 1)
 }
 
-fn push_dup(stack: &mut [u64], height: usize) -> Height
+// Copies the topmost slots below so many under them.
+fn push_copies(stack: &mut [u64], height: usize, count: usize, under: usize) -> Height
     requires { ⌜ Clean (now stack) height ⌝ }
     ensures { λ r. ⌜ Laid (now (stack .entry)) r (now (stack .exit))
-        (applied cells 0 (does 1 (carried dupPlaces)) (take height (now (stack .entry)))) ⌝ }
+        (applied cells 0 (does (count + under) (carried (copyPlaces count under))) (take height (now (stack .entry)))) ⌝ }
 {
-    if height < 1 {
+    if height < count {
         return Height::Refused;
     }
-    if stack.len() <= height {
-        return Height::Over;
-    }
-    stack[height] = stack[height - 1];
-    Height::High(height + 1)
-}
-
-fn push_dup2(stack: &mut [u64], height: usize) -> Height
-    requires { ⌜ Clean (now stack) height ⌝ }
-    ensures { λ r. ⌜ Laid (now (stack .entry)) r (now (stack .exit))
-        (applied cells 0 (does 2 (carried dup2Places)) (take height (now (stack .entry)))) ⌝ }
-{
-    if height < 2 {
+    if height - count < under {
         return Height::Refused;
     }
-    if stack.len() - height < 2 {
+    if stack.len() - height < count {
         return Height::Over;
     }
-    stack[height] = stack[height - 2];
-    stack[height + 1] = stack[height - 1];
-    Height::High(height + 2)
+    copies::copy_below(stack, height, count, under);
+    Height::High(height + count)
 }
 
 fn swap_top(stack: &mut [u64], height: usize) -> Height
@@ -127,8 +116,7 @@ fn apply(stack: &mut [u64], height: usize, pc: usize, effect: Effect) -> Height
         Effect::Fails => Height::Refused,
         Effect::Opaque { takes, gives } => push_opaque(stack, height, takes, gives),
         Effect::Load { local } => push_load(stack, height, pc, local),
-        Effect::Dup => push_dup(stack, height),
-        Effect::Dup2 => push_dup2(stack, height),
+        Effect::Copies { count, under } => push_copies(stack, height, count, under),
         Effect::Swap => swap_top(stack, height),
     }
 }
@@ -149,6 +137,7 @@ fn land(pc: usize, fault: usize, size: usize, height: usize) -> Step
 
 // One instruction.
 fn step_at(
+    model: Model,
     lengths: &[u8; 256],
     code: &[u8],
     members: &[u8],
@@ -164,14 +153,14 @@ fn step_at(
     requires { ⌜ Clean (now stack) height ⌝ }
     requires { ⌜ pc < fault ⌝ }
     ensures { λ r. ⌜ Stepped (now (stack .entry)) r (now (stack .exit))
-        (stepAt cells rowOf (lookupIn (now (members .entry)) count) (now (code .entry)) fault pc
+        (stepAt cells (rowsOf model) (lookupIn (now (members .entry)) count) (now (code .entry)) fault pc
         (take height (now (stack .entry)))) ⌝ }
 {
     if code.len() <= pc {
         return Step::Stops;
     }
     let op = code[pc];
-    let effect = instruction::effect_of(op, code, members, count, table, pc);
+    let effect = instruction::effect_of(model, op, code, members, count, table, pc);
     let size = fixed::fixed_by(lengths, op) as usize;
     match apply(stack, height, pc, effect) {
         Height::Refused => Step::Stops,
@@ -192,6 +181,7 @@ fn give_up(stack: &mut [u64], height: usize, answer: Walk) -> Walk
 
 // Walks from the leader to the fault, over the lent stack, by a table of the members.
 fn walk_block(
+    model: Model,
     code: &[u8],
     members: &[u8],
     count: usize,
@@ -201,7 +191,7 @@ fn walk_block(
     stack: &mut [u64],
 ) -> Walk
     requires { ⌜ Indexed (now members) count (now table) ⌝ }
-    ensures { λ r. ⌜ Walks (now (code .entry)) (now (members .entry)) count leader fault
+    ensures { λ r. ⌜ WalksIn model (now (code .entry)) (now (members .entry)) count leader fault
         (now (stack .entry)) r (now (stack .exit)) ⌝ }
 {
     clear(stack);
@@ -211,6 +201,7 @@ fn walk_block(
     let mut completed: usize = 0;
     while pc < fault {
         match step_at(
+            model,
             &lengths,
             code,
             members,
@@ -250,6 +241,7 @@ fn walk_block(
 
 // The same, by a table that is made for this walk.
 fn walk_indexed(
+    model: Model,
     code: &[u8],
     members: &[u8],
     count: usize,
@@ -257,15 +249,35 @@ fn walk_indexed(
     fault: usize,
     stack: &mut [u64],
 ) -> Walk
-    ensures { λ r. ⌜ Walks (now (code .entry)) (now (members .entry)) count leader fault
+    ensures { λ r. ⌜ WalksIn model (now (code .entry)) (now (members .entry)) count leader fault
         (now (stack .entry)) r (now (stack .exit)) ⌝ }
 {
     let mut table = [0usize; CELLS];
     index::index_members(members, count, &mut table);
-    walk_block(code, members, count, &table, leader, fault, stack)
+    walk_block(model, code, members, count, &table, leader, fault, stack)
 }
 
-// Walks from the leader to the fault, over the lent stack. Among few members a lookup needs no table.
+// Walks from the leader to the fault in a model, over the lent stack. Among few members a lookup needs no table.
+pub fn simulate_block_in(
+    model: Model,
+    code: &[u8],
+    members: &[u8],
+    count: usize,
+    leader: usize,
+    fault: usize,
+    stack: &mut [u64],
+) -> Walk
+    ensures { λ r. ⌜ WalksIn model (now (code .entry)) (now (members .entry)) count leader fault
+        (now (stack .entry)) r (now (stack .exit)) ⌝ }
+{
+    if count < MANY {
+        let none = [0usize; 1];
+        return walk_block(model, code, members, count, &none, leader, fault, stack);
+    }
+    walk_indexed(model, code, members, count, leader, fault, stack)
+}
+
+// The same in document 01's model.
 pub fn simulate_block(
     code: &[u8],
     members: &[u8],
@@ -277,9 +289,5 @@ pub fn simulate_block(
     ensures { λ r. ⌜ Walks (now (code .entry)) (now (members .entry)) count leader fault
         (now (stack .entry)) r (now (stack .exit)) ⌝ }
 {
-    if count < MANY {
-        let none = [0usize; 1];
-        return walk_block(code, members, count, &none, leader, fault, stack);
-    }
-    walk_indexed(code, members, count, leader, fault, stack)
+    simulate_block_in(Model::Document, code, members, count, leader, fault, stack)
 }

@@ -3,7 +3,8 @@
 use Prim.Native.Nat.{ℕ}
 use mathlib.Core.List.{List}
 use lib.ListN.{replicate}
-use Rattle.walk.specs.Room.{Roomed, blockWalk, answerOf, cellsOf}
+use Rattle.effects.specs.declared.Model.{Model}
+use Rattle.walk.specs.Room.{Roomed, blockWalkIn, answerOf, cellsOf}
 use Rattle.casefile.specs.Parts.{Parts, partsOf}
 use Rattle.casefile.specs.declared.Case.{Case}
 use Rattle.casefile.specs.declared.Case.the-variants as cases
@@ -18,22 +19,23 @@ use Rattle.structs.specs.Structs.{walkNumbers, unread, listNumbers}
 use Rattle.structs.specs.declared.KorsepalParameters.{KorsepalParameters}
 use Rattle.structs.specs.declared.KorsepalWalk.{KorsepalWalk}
 
--- ---- the walk of a case's block, alone
+-- ---- the walk of a case's block in a model, alone
 
 -- of the parts of a case
-abbrev pub walkIn : Parts → ℕ → ℕ → ℕ → Roomed ℕ
-walkIn p leader fault room = blockWalk (p .code) (p .members) (p .memberCount) leader fault room
+abbrev pub walkIn : Model → Parts → ℕ → ℕ → ℕ → Roomed ℕ
+walkIn model p leader fault room = blockWalkIn model (p .code) (p .members) (p .memberCount) leader fault room
 
-abbrev pub caseWalk : List ℕ → ℕ → ℕ → ℕ → Case → KorsepalWalk
-caseWalk bytes leader fault room (cases.Parts places) = walkNumbers (answerOf (walkIn (partsOf bytes places) leader fault room))
-caseWalk bytes leader fault room (cases.Wrong offset) = unread (cases.Wrong offset)
-caseWalk bytes leader fault room cases.TooLong = unread cases.TooLong
+abbrev pub caseWalk : Model → List ℕ → ℕ → ℕ → ℕ → Case → KorsepalWalk
+caseWalk model bytes leader fault room (cases.Parts places) =
+    walkNumbers (answerOf (walkIn model (partsOf bytes places) leader fault room))
+caseWalk model bytes leader fault room (cases.Wrong offset) = unread (cases.Wrong offset)
+caseWalk model bytes leader fault room cases.TooLong = unread cases.TooLong
 
 -- "the stack as document 01 says of the walk alone, all zero for 2 and 5"
-abbrev pub caseCells : List ℕ → ℕ → ℕ → ℕ → Case → List ℕ
-caseCells bytes leader fault room (cases.Parts places) = cellsOf room (walkIn (partsOf bytes places) leader fault room)
-caseCells bytes leader fault room (cases.Wrong offset) = replicate room 0
-caseCells bytes leader fault room cases.TooLong = replicate room 0
+abbrev pub caseCells : Model → List ℕ → ℕ → ℕ → ℕ → Case → List ℕ
+caseCells model bytes leader fault room (cases.Parts places) = cellsOf room (walkIn model (partsOf bytes places) leader fault room)
+caseCells model bytes leader fault room (cases.Wrong offset) = replicate room 0
+caseCells model bytes leader fault room cases.TooLong = replicate room 0
 
 -- ---- texts that are written where they fit, and else measured
 

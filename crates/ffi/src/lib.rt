@@ -2,7 +2,9 @@
 use casefile::Case;
 use cell::clear;
 use descriptor::Params;
+use effects::Model;
 use items::part_at;
+use report::Manner;
 use structs::KorsepalLeader;
 use structs::KorsepalLength;
 use structs::KorsepalName;
@@ -31,7 +33,8 @@ ghost use Rattle.descriptor.specs.Readers.{parameters, returnSlots, fieldSlots}
 ghost use Rattle.descriptor.specs.declared.Slots.the-variants.{Slots as SlotsOf};
 ghost use Rattle.leader.specs.Scan.{blockLeader};
 ghost use Rattle.answer.specs.Answer.{answerBy, outputBy};
-ghost use Rattle.report.specs.Report.{reportOf, reportedIn};
+ghost use Rattle.effects.specs.declared.Model.the-variants.{Document, Full};
+ghost use Rattle.report.specs.Report.{fullManner, reportIn, reportedBy, reportOf, reportedIn};
 ghost use Rattle.structs.specs.Structs.{reportNumbers, lengthNumbers, leaderNumbers, slotNumbers, nameNumbers, strictNumbers};
 ghost use Rattle.ffi.specs.Numbers.{caseWalk, caseCells, spoken, caseName, caseNamed, parameterNumbers, parametersIn};
 
@@ -47,6 +50,22 @@ pub extern "C" fn korsepal_report(
     ensures clears { λ r. ⌜ now (stack .exit) ≡ replicate (length (now (stack .entry))) 0 ⌝ }
 {
     let answer = report::build_message(case, stack, output);
+    report_numbers(answer)
+}
+
+// The same in the full model.
+#[no_mangle]
+pub extern "C" fn korsepal_report_full(
+    case: &[u8],
+    stack: &mut [u64],
+    output: &mut [u8],
+) -> KorsepalReport
+    ensures answers { λ r. ⌜ r ≡ reportNumbers (reportIn fullManner (now (case .entry)) (length (now (stack .entry))) (length (now (output .entry)))) ⌝ }
+    ensures leaves { λ r. ⌜ now (output .exit) ≡ reportedBy fullManner (now (case .entry)) (length (now (stack .entry))) (now (output .entry)) ⌝ }
+    ensures clears { λ r. ⌜ now (stack .exit) ≡ replicate (length (now (stack .entry))) 0 ⌝ }
+{
+    let manner = Manner { model: Model::Full };
+    let answer = report::build_message_in(manner, case, stack, output);
     report_numbers(answer)
 }
 
@@ -88,16 +107,10 @@ pub extern "C" fn korsepal_field_slots(descriptor: &[u8]) -> KorsepalSlots
     }
 }
 
-// Walks from a leader to a fault over a lent stack, in the code of a case and with its members.
-#[no_mangle]
-pub extern "C" fn korsepal_walk(
-    case: &[u8],
-    leader: u64,
-    fault: u64,
-    stack: &mut [u64],
-) -> KorsepalWalk
-    ensures answers { λ r. ⌜ r ≡ caseWalk (now (case .entry)) leader fault (length (now (stack .entry))) (caseOf (now (case .entry))) ⌝ }
-    ensures leaves { λ r. ⌜ now (stack .exit) ≡ caseCells (now (case .entry)) leader fault (length (now (stack .entry))) (caseOf (now (case .entry))) ⌝ }
+// Walks in a model from a leader to a fault over a lent stack, in the code of a case and with its members.
+fn walk_case(model: Model, case: &[u8], leader: u64, fault: u64, stack: &mut [u64]) -> KorsepalWalk
+    ensures answers { λ r. ⌜ r ≡ caseWalk model (now (case .entry)) leader fault (length (now (stack .entry))) (caseOf (now (case .entry))) ⌝ }
+    ensures leaves { λ r. ⌜ now (stack .exit) ≡ caseCells model (now (case .entry)) leader fault (length (now (stack .entry))) (caseOf (now (case .entry))) ⌝ }
 {
     match casefile::read_case(case) {
         Case::TooLong => {
@@ -121,7 +134,8 @@ pub extern "C" fn korsepal_walk(
         Case::Parts(places) => {
             let code = part_at(case, places.code, places.code_length);
             let members = part_at(case, places.members, places.members_length);
-            let walk = block::simulate_block(
+            let walk = block::simulate_block_in(
+                model,
                 code,
                 members,
                 places.member_count,
@@ -132,6 +146,34 @@ pub extern "C" fn korsepal_walk(
             walk_numbers(walk)
         }
     }
+}
+
+// Walks from a leader to a fault over a lent stack, in the code of a case and with its members.
+#[no_mangle]
+pub extern "C" fn korsepal_walk(
+    case: &[u8],
+    leader: u64,
+    fault: u64,
+    stack: &mut [u64],
+) -> KorsepalWalk
+    ensures answers { λ r. ⌜ r ≡ caseWalk Document (now (case .entry)) leader fault (length (now (stack .entry))) (caseOf (now (case .entry))) ⌝ }
+    ensures leaves { λ r. ⌜ now (stack .exit) ≡ caseCells Document (now (case .entry)) leader fault (length (now (stack .entry))) (caseOf (now (case .entry))) ⌝ }
+{
+    walk_case(Model::Document, case, leader, fault, stack)
+}
+
+// The same in the full model.
+#[no_mangle]
+pub extern "C" fn korsepal_walk_full(
+    case: &[u8],
+    leader: u64,
+    fault: u64,
+    stack: &mut [u64],
+) -> KorsepalWalk
+    ensures answers { λ r. ⌜ r ≡ caseWalk Full (now (case .entry)) leader fault (length (now (stack .entry))) (caseOf (now (case .entry))) ⌝ }
+    ensures leaves { λ r. ⌜ now (stack .exit) ≡ caseCells Full (now (case .entry)) leader fault (length (now (stack .entry))) (caseOf (now (case .entry))) ⌝ }
+{
+    walk_case(Model::Full, case, leader, fault, stack)
 }
 
 // The types of a descriptor that is one type, as numbers.

@@ -1,18 +1,17 @@
 -- What the code's effects stand for: the effects of the walk's rule (crates/walk/specs/Walk.antt), but for why one fails.
 -- Assumes nothing.
-use Prim.Native.Nat.{ℕ}
-use Rattle.row.specs.Code.{dupPlaces, dup2Places, swapPlaces}
+use Prim.Native.Nat.{ℕ, _+_}
+use Rattle.row.specs.Code.{copyPlaces, swapPlaces}
 use Rattle.walk.specs.Walk.{notModelled, Push, blanks, load, carried, unread, Effect, fails, does}
 use Rattle.instruction.specs.declared.Effect.{Effect as CodeEffect}
-use Rattle.instruction.specs.declared.Effect.the-variants.{Fails, Opaque, Load, Dup, Dup2, Swap}
+use Rattle.instruction.specs.declared.Effect.the-variants.{Fails, Opaque, Load, Copies, Swap}
 
 -- the code knows that an effect fails, not why
 abbrev pub effectFrom : CodeEffect → Effect
 effectFrom Fails = fails notModelled
 effectFrom (Opaque takes gives) = does takes (blanks gives)
 effectFrom (Load local) = does 0 (load local)
-effectFrom Dup = does 1 (carried dupPlaces)
-effectFrom Dup2 = does 2 (carried dup2Places)
+effectFrom (Copies count under) = does (count + under) (carried (copyPlaces count under))
 effectFrom Swap = does 2 (carried swapPlaces)
 
 abbrev pub barePush : ℕ → Push → Effect

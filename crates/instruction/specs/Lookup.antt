@@ -7,7 +7,10 @@ use lib.ListN.{length}
 use Rattle.basics.specs.Bytes.{u16At}
 use Rattle.basics.specs.Choice.{pick}
 use Rattle.index.specs.Index.{foundBy}
-use Rattle.effects.specs.Lookup.{Lookup, knownBy}
+use Rattle.descriptor.specs.Readers.{fieldSlots}
+use Rattle.descriptor.specs.declared.Slots.{Slots}
+use Rattle.descriptor.specs.declared.Slots.the-variants.{Slots as SlotsOf, Unreadable as NoSlots}
+use Rattle.effects.specs.Lookup.{Known, missing, known, Lookup, knownBy}
 
 unfoldable pub lookupBy : List ℕ → ℕ → List ℕ → Lookup
 lookupBy members count table kind index = knownBy (foundBy members count table index kind)
@@ -16,3 +19,11 @@ lookupBy members count table kind index = knownBy (foundBy members count table i
 abbrev pub citedTexts : List ℕ → ℕ → List ℕ → List ℕ → ℕ → ℕ → List ℕ
 citedTexts members count table code pc kind =
     pick (ltb (pc + 2) (length code)) (foundBy members count table (u16At code (pc + 1)) kind) []
+
+-- the slots of the field that it cites; none where the pool index is cut or there is no such field
+abbrev pub slotsKnown : Known → Slots
+slotsKnown missing = NoSlots
+slotsKnown (known descriptor) = SlotsOf (fieldSlots descriptor)
+
+abbrev pub citedSlots : Lookup → List ℕ → ℕ → Slots
+citedSlots lookup code pc = pick (ltb (pc + 2) (length code)) (slotsKnown (lookup 0 (u16At code (pc + 1)))) NoSlots

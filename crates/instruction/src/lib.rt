@@ -1,15 +1,16 @@
-// What an instruction does to the slots, its operands read (document 01, "The walk").
+// What an instruction does to the slots in a model, its operands read (document 01, "The walk"; document 02, request 1).
 use descriptor::Params;
 use descriptor::Slots;
+use effects::Model;
 use row::Row;
 ghost use mathlib.Core.Path.{_≡_};
 ghost use Prim.Native.Nat.{_-_, _≤_};
 ghost use lib.ListN.{length};
-ghost use Rattle.effects.specs.Rows.{rowOf, aload as aloadRow, gets as getsRow, calls as callsRow};
+ghost use Rattle.effects.specs.Rows.{rowsOf, aload as aloadRow, gets as getsRow, calls as callsRow, puts as putsRow, makes as makesRow};
 ghost use Rattle.walk.specs.Walk.{effectBy};
 ghost use Rattle.walk.specs.Worked.{nothing};
 ghost use Rattle.instruction.specs.Code.{effectFrom, bare};
-ghost use Rattle.instruction.specs.Lookup.{lookupBy, citedTexts};
+ghost use Rattle.instruction.specs.Lookup.{lookupBy, citedTexts, citedSlots};
 
 // What an instruction does to the slots.
 pub enum Effect {
@@ -18,8 +19,8 @@ pub enum Effect {
     Opaque { takes: usize, gives: usize },
     // Pushes the load of a local.
     Load { local: usize },
-    Dup,
-    Dup2,
+    // The topmost slots once more, below so many under them.
+    Copies { count: usize, under: usize },
     Swap,
 }
 
@@ -62,6 +63,17 @@ fn cited_texts<'a>(
     index::find_indexed(members, count, table, reads::read_u16(code, pc + 1), kind)
 }
 
+// The slots of the field that the instruction at pc cites.
+fn cited_slots(code: &[u8], members: &[u8], count: usize, table: &[usize], pc: usize) -> Slots
+    ensures { λ r. ⌜ r ≡ citedSlots (lookupBy (now (members .entry)) count (now (table .entry))) (now (code .entry)) pc ⌝ }
+{
+    let texts = cited_texts(code, members, count, table, pc, 0);
+    if texts.len() == 0 {
+        return Slots::Unreadable;
+    }
+    Slots::Slots(descriptor::slots_of_field_type(items::descriptor_of(texts)))
+}
+
 // The effect of reading the field that the instruction at pc cites.
 fn get_effect(
     code: &[u8],
@@ -74,13 +86,48 @@ fn get_effect(
     ensures { λ r. ⌜ effectFrom r ≡ bare (effectBy (lookupBy (now (members .entry)) count (now (table .entry)))
         (now (code .entry)) pc (getsRow takes)) ⌝ }
 {
-    let texts = cited_texts(code, members, count, table, pc, 0);
-    if texts.len() == 0 {
+    let Slots::Slots(gives) = cited_slots(code, members, count, table, pc) else {
+        return Effect::Fails;
+    };
+    Effect::Opaque { takes, gives }
+}
+
+// The effect of writing it.
+fn put_effect(
+    code: &[u8],
+    members: &[u8],
+    count: usize,
+    table: &[usize],
+    pc: usize,
+    takes: usize,
+) -> Effect
+    requires { ⌜ takes ≤ 1 ⌝ }
+    ensures { λ r. ⌜ effectFrom r ≡ bare (effectBy (lookupBy (now (members .entry)) count (now (table .entry)))
+        (now (code .entry)) pc (putsRow takes)) ⌝ }
+{
+    let Slots::Slots(slots) = cited_slots(code, members, count, table, pc) else {
+        return Effect::Fails;
+    };
+    Effect::Opaque {
+        takes: takes + slots,
+        gives: 0,
+    }
+}
+
+// The effect of `multianewarray`, which names its dimensions by the third byte behind it.
+fn make_effect(code: &[u8], pc: usize) -> Effect
+    ensures { λ r. ⌜ effectFrom r ≡ bare (effectBy nothing (now (code .entry)) pc makesRow) ⌝ }
+{
+    if bytes_from(code, pc) < 4 {
+        return Effect::Fails;
+    }
+    let dimensions = code[pc + 3] as usize;
+    if dimensions == 0 {
         return Effect::Fails;
     }
     Effect::Opaque {
-        takes,
-        gives: descriptor::slots_of_field_type(items::descriptor_of(texts)),
+        takes: dimensions,
+        gives: 1,
     }
 }
 
@@ -116,6 +163,7 @@ fn call_effect(
 
 // The effect of the instruction at pc, whose opcode is given. Members are looked up by a table of the run.
 pub fn effect_of(
+    model: Model,
     op: u8,
     code: &[u8],
     members: &[u8],
@@ -124,18 +172,19 @@ pub fn effect_of(
     pc: usize,
 ) -> Effect
     ensures { λ r. ⌜ effectFrom r ≡ bare (effectBy (lookupBy (now (members .entry)) count (now (table .entry)))
-        (now (code .entry)) pc (rowOf op)) ⌝ }
+        (now (code .entry)) pc (rowsOf model op)) ⌝ }
 {
-    match row::row_of(op) {
+    match row::row_in(model, op) {
         Row::Unmodelled => Effect::Fails,
         Row::Opaque { takes, gives } => Effect::Opaque { takes, gives },
         Row::Aload => load_effect(code, pc),
         Row::AloadOf { local } => Effect::Load { local },
-        Row::Dup => Effect::Dup,
-        Row::Dup2 => Effect::Dup2,
+        Row::Copies { count: n, under } => Effect::Copies { count: n, under },
         Row::Swap => Effect::Swap,
         Row::Keeps => Effect::Opaque { takes: 0, gives: 0 },
         Row::Gets { takes } => get_effect(code, members, count, table, pc, takes),
         Row::Calls { takes } => call_effect(code, members, count, table, pc, takes),
+        Row::Puts { takes } => put_effect(code, members, count, table, pc, takes),
+        Row::Makes => make_effect(code, pc),
     }
 }

@@ -1,9 +1,12 @@
 // Reads one case from standard input and prints one line: the answer, the kind, the two counts, and the message or the number
-// that the answer carries.
+// that the answer carries. The word --full asks for the full model.
 use answer::Report;
+use check::same;
+use effects::Model;
 use libc::STDERR_FILENO;
 use libc::STDIN_FILENO;
 use libc::STDOUT_FILENO;
+use report::Manner;
 
 // What reading the input answers.
 enum Input {
@@ -64,27 +67,63 @@ fn print_line(answer: Report, output: &[u8]) {
     io::write_all(STDOUT_FILENO, b"\n");
 }
 
-fn report_case(case: &[u8]) {
+fn report_case(manner: Manner, case: &[u8]) {
     let mut output = [0u8; 16384];
     let mut stack = [0u64; 4096];
-    let answer = report::build_message(case, &mut stack, &mut output);
+    let answer = report::build_message_in(manner, case, &mut stack, &mut output);
     print_line(answer, &output);
 }
 
 // Reports on the case at the start of the buffer.
-fn report_start(buffer: &[u8], size: usize) {
+fn report_start(manner: Manner, buffer: &[u8], size: usize) {
     if size <= buffer.len() {
-        report_case(&buffer[..size]);
+        report_case(manner, &buffer[..size]);
     }
 }
 
-fn main() {
+// Reads the case and reports on it.
+fn report_input(manner: Manner) {
     let mut buffer = [0u8; 32768];
     match read_input(&mut buffer) {
-        Input::Case(size) => report_start(&buffer, size),
+        Input::Case(size) => report_start(manner, &buffer, size),
         Input::TooLong => print_line(Report::TooLong, b""),
         Input::Unreadable => {
             io::write_all(STDERR_FILENO, b"npe: standard input cannot be read\n");
         }
+    }
+}
+
+// Whether the program's word at a place is this one.
+fn is_word(at: usize, word: &[u8]) -> bool {
+    let mut buffer = [0u8; 32];
+    let size = os::arg(at, &mut buffer);
+    same(items::part_at(&buffer, 0, size), word)
+}
+
+// How many words behind the program's name are --full, up to the first that is not.
+fn full_words() -> usize {
+    let mut at = 1;
+    while at < os::arg_count() {
+        if !is_word(at, b"--full") {
+            return at - 1;
+        }
+        at += 1;
+    }
+    at - 1
+}
+
+fn main() {
+    let full = full_words();
+    if full + 1 < os::arg_count() {
+        io::write_all(
+            STDERR_FILENO,
+            b"npe: npe [--full] reads one case from standard input\n",
+        );
+        return;
+    }
+    if full == 0 {
+        report_input(report::document_manner());
+    } else {
+        report_input(Manner { model: Model::Full });
     }
 }

@@ -1,4 +1,5 @@
--- The report of a case (document 01, "Numbers returned"): its answer, the output and the stack at exit.
+-- The report of a case (document 01, "Numbers returned"): its answer, the output and the stack at exit. It is asked for in a manner, the
+-- model of its walk (document 02, request 1); document 01's is the one that a call gets that names none.
 -- Assumes nothing.
 use Prim.Native.Nat.{ℕ}
 use mathlib.Core.List.{List, []}
@@ -10,6 +11,8 @@ use Rattle.casefile.specs.Whole.{caseOf}
 use Rattle.casefile.specs.declared.Case.{Case}
 use Rattle.casefile.specs.declared.Case.the-variants as cases
 use Rattle.cell.specs.declared.Slot.{Slot}
+use Rattle.effects.specs.declared.Model.{Model}
+use Rattle.effects.specs.declared.Model.the-variants.{Document, Full}
 use Rattle.answer.specs.Answer.{kindOf, Said, silent, roomless, said, answerBy, outputBy}
 use Rattle.fault.specs.Decoding.{decoded}
 use Rattle.fault.specs.declared.Action.{Action}
@@ -22,6 +25,14 @@ use Rattle.answer.specs.declared.Report.{Report}
 use Rattle.answer.specs.declared.Report.the-variants as report
 use Rattle.trace.specs.declared.Trace.{Trace}
 use Rattle.trace.specs.declared.Trace.the-variants as trace
+use Rattle.report.specs.declared.Manner.{Manner}
+
+-- document 01's manner, and that of the full model
+abbrev pub documentManner : Manner
+documentManner = record { model = Document }
+
+abbrev pub fullManner : Manner
+fullManner = record { model = Full }
 
 unfoldable pub messageOf : Parts → Action → Slot → List ℕ
 messageOf p action cause =
@@ -45,43 +56,54 @@ partsBy flags fault code signature members memberCount records recordCount =
 abbrev pub scanOf : Parts → Scan
 scanOf p = blockLeader lengthOf [] (p .code) (p .fault)
 
--- the cause of the fault, whose reference lies at a depth, with so many cells lent: over what a scan answered, and over the report's
-abbrev pub tracedFrom : Scan → Parts → ℕ → ℕ → Trace
-tracedFrom scan p depth room = tracedBy (p .code) (p .members) (p .memberCount) (p .fault) depth room scan
+-- the cause of the fault in a model, whose reference lies at a depth, with so many cells lent: over what a scan answered, and over
+-- the report's
+abbrev pub tracedFrom : Model → Scan → Parts → ℕ → ℕ → Trace
+tracedFrom model scan p depth room = tracedBy model (p .code) (p .members) (p .memberCount) (p .fault) depth room scan
 
-abbrev pub tracedIn : Parts → ℕ → ℕ → Trace
-tracedIn p depth room = tracedFrom (scanOf p) p depth room
+abbrev pub tracedIn : Model → Parts → ℕ → ℕ → Trace
+tracedIn model p depth room = tracedFrom model (scanOf p) p depth room
 
 abbrev pub saidBy : Parts → Action → Trace → Said
 saidBy p action (trace.NoRoom index) = roomless index
 saidBy p action (trace.Traced scan block cause) = said (messageOf p action cause) (kindOf cause) scan block
 
-abbrev pub saidFrom : Scan → Parts → ℕ → Fault → Said
-saidFrom scan p room Nothing = silent
-saidFrom scan p room (Failed action depth) = saidBy p action (tracedFrom scan p depth room)
+abbrev pub saidFrom : Manner → Scan → Parts → ℕ → Fault → Said
+saidFrom manner scan p room Nothing = silent
+saidFrom manner scan p room (Failed action depth) = saidBy p action (tracedFrom (manner .model) scan p depth room)
 
-abbrev pub saidAt : Parts → ℕ → Fault → Said
-saidAt p room fault = saidFrom (scanOf p) p room fault
+abbrev pub saidAt : Manner → Parts → ℕ → Fault → Said
+saidAt manner p room fault = saidFrom manner (scanOf p) p room fault
 
--- of the parts of a case, with so many cells lent
-unfoldable pub saidOf : Parts → ℕ → Said
-saidOf p room = saidAt p room (decoded (p .code) (p .members) (p .memberCount) (p .fault))
+-- of the parts of a case, with so many cells lent: in a manner, and in document 01's
+unfoldable pub saidIn : Manner → Parts → ℕ → Said
+saidIn manner p room = saidAt manner p room (decoded (p .code) (p .members) (p .memberCount) (p .fault))
+
+abbrev pub saidOf : Parts → ℕ → Said
+saidOf p room = saidIn documentManner p room
 
 -- ---- a whole case: "Tested in the order 5, 2, 1, 3, 4."
 
-abbrev pub answerOf : List ℕ → ℕ → ℕ → Case → Report
-answerOf bytes room outRoom (cases.Parts places) = answerBy (saidOf (partsOf bytes places) room) outRoom
-answerOf bytes room outRoom (cases.Wrong offset) = report.Broken offset
-answerOf bytes room outRoom cases.TooLong = report.TooLong
+abbrev pub answerOf : Manner → List ℕ → ℕ → ℕ → Case → Report
+answerOf manner bytes room outRoom (cases.Parts places) = answerBy (saidIn manner (partsOf bytes places) room) outRoom
+answerOf manner bytes room outRoom (cases.Wrong offset) = report.Broken offset
+answerOf manner bytes room outRoom cases.TooLong = report.TooLong
 
-abbrev pub outputOf : List ℕ → ℕ → List ℕ → Case → List ℕ
-outputOf bytes room out (cases.Parts places) = outputBy (saidOf (partsOf bytes places) room) out
-outputOf bytes room out (cases.Wrong offset) = out
-outputOf bytes room out cases.TooLong = out
+abbrev pub outputOf : Manner → List ℕ → ℕ → List ℕ → Case → List ℕ
+outputOf manner bytes room out (cases.Parts places) = outputBy (saidIn manner (partsOf bytes places) room) out
+outputOf manner bytes room out (cases.Wrong offset) = out
+outputOf manner bytes room out cases.TooLong = out
 
--- the bytes of a case, and the cells and the output that are lent
-unfoldable pub reportOf : List ℕ → ℕ → ℕ → Report
-reportOf bytes room outRoom = answerOf bytes room outRoom (caseOf bytes)
+-- the bytes of a case, and the cells and the output that are lent: the answer and the output, in a manner
+unfoldable pub reportIn : Manner → List ℕ → ℕ → ℕ → Report
+reportIn manner bytes room outRoom = answerOf manner bytes room outRoom (caseOf bytes)
 
-unfoldable pub reportedIn : List ℕ → ℕ → List ℕ → List ℕ
-reportedIn bytes room out = outputOf bytes room out (caseOf bytes)
+unfoldable pub reportedBy : Manner → List ℕ → ℕ → List ℕ → List ℕ
+reportedBy manner bytes room out = outputOf manner bytes room out (caseOf bytes)
+
+-- and in document 01's
+abbrev pub reportOf : List ℕ → ℕ → ℕ → Report
+reportOf bytes room outRoom = reportIn documentManner bytes room outRoom
+
+abbrev pub reportedIn : List ℕ → ℕ → List ℕ → List ℕ
+reportedIn bytes room out = reportedBy documentManner bytes room out

@@ -1,8 +1,9 @@
-// The report of a case (document 01, "Numbers returned"): the case is read, then reported on by its parts.
+// The report of a case (document 01, "Numbers returned"): the case is read, then reported on by its parts, in the manner asked for.
 use answer::Report;
 use answer::write_message;
 use casefile::Case;
 use cell::clear;
+use effects::Model;
 use fault::Fault;
 use items::part_at;
 use locals::is_instance;
@@ -11,10 +12,26 @@ use trace::trace_cause;
 ghost use mathlib.Core.Path.{_≡_};
 ghost use lib.ListN.{length, replicate};
 ghost use Rattle.answer.specs.Answer.{Delivered};
-ghost use Rattle.report.specs.Report.{partsBy, saidOf, reportOf, reportedIn};
+ghost use Rattle.report.specs.Report.{documentManner, partsBy, saidIn, saidOf, reportIn, reportedBy, reportOf, reportedIn};
 
-// Reports on the parts of a case: flags and fault, code, signature, and so many members and records.
-pub fn report_parts(
+// How a report is asked for.
+pub struct Manner {
+    // What its walk models.
+    pub model: Model,
+}
+
+// Document 01's manner.
+pub fn document_manner() -> Manner
+    ensures { λ r. ⌜ r ≡ documentManner ⌝ }
+{
+    Manner {
+        model: Model::Document,
+    }
+}
+
+// Reports in a manner on the parts of a case: flags and fault, code, signature, and so many members and records.
+pub fn report_parts_in(
+    manner: Manner,
     flags: usize,
     at: usize,
     code: &[u8],
@@ -27,7 +44,7 @@ pub fn report_parts(
     out: &mut [u8],
 ) -> Report
     ensures delivers { λ r. ⌜ Delivered
-        (saidOf (partsBy flags at (now (code .entry)) (now (signature .entry)) (now (members .entry)) «member_count»
+        (saidIn manner (partsBy flags at (now (code .entry)) (now (signature .entry)) (now (members .entry)) «member_count»
         (now (records .entry)) «record_count») (length (now (stack .entry))))
         (now (out .entry)) r (now (out .exit)) ⌝ }
     ensures clears { λ r. ⌜ now (stack .exit) ≡ replicate (length (now (stack .entry))) 0 ⌝ }
@@ -37,7 +54,7 @@ pub fn report_parts(
         clear(stack);
         return Report::NoMessage;
     };
-    match trace_cause(code, members, member_count, at, depth, stack) {
+    match trace_cause(manner.model, code, members, member_count, at, depth, stack) {
         Trace::NoRoom { at: index } => Report::NoRoom { at: index },
         Trace::Traced { scan, block, cause } => {
             let instance = is_instance(flags);
@@ -58,10 +75,44 @@ pub fn report_parts(
     }
 }
 
-// Reports on a case. The lent stack is zero afterwards, whatever is answered.
-pub fn build_message(case: &[u8], stack: &mut [u64], out: &mut [u8]) -> Report
-    ensures answers { λ r. ⌜ r ≡ reportOf (now (case .entry)) (length (now (stack .entry))) (length (now (out .entry))) ⌝ }
-    ensures leaves { λ r. ⌜ now (out .exit) ≡ reportedIn (now (case .entry)) (length (now (stack .entry))) (now (out .entry)) ⌝ }
+// The same in document 01's manner.
+pub fn report_parts(
+    flags: usize,
+    at: usize,
+    code: &[u8],
+    signature: &[u8],
+    members: &[u8],
+    member_count: usize,
+    records: &[u8],
+    record_count: usize,
+    stack: &mut [u64],
+    out: &mut [u8],
+) -> Report
+    ensures delivers { λ r. ⌜ Delivered
+        (saidOf (partsBy flags at (now (code .entry)) (now (signature .entry)) (now (members .entry)) «member_count»
+        (now (records .entry)) «record_count») (length (now (stack .entry))))
+        (now (out .entry)) r (now (out .exit)) ⌝ }
+    ensures clears { λ r. ⌜ now (stack .exit) ≡ replicate (length (now (stack .entry))) 0 ⌝ }
+{
+    report_parts_in(
+        document_manner(),
+        flags,
+        at,
+        code,
+        signature,
+        members,
+        member_count,
+        records,
+        record_count,
+        stack,
+        out,
+    )
+}
+
+// Reports on a case in a manner. The lent stack is zero afterwards, whatever is answered.
+pub fn build_message_in(manner: Manner, case: &[u8], stack: &mut [u64], out: &mut [u8]) -> Report
+    ensures answers { λ r. ⌜ r ≡ reportIn manner (now (case .entry)) (length (now (stack .entry))) (length (now (out .entry))) ⌝ }
+    ensures leaves { λ r. ⌜ now (out .exit) ≡ reportedBy manner (now (case .entry)) (length (now (stack .entry))) (now (out .entry)) ⌝ }
     ensures clears { λ r. ⌜ now (stack .exit) ≡ replicate (length (now (stack .entry))) 0 ⌝ }
 {
     match casefile::read_case(case) {
@@ -78,7 +129,8 @@ pub fn build_message(case: &[u8], stack: &mut [u64], out: &mut [u8]) -> Report
             let signature = part_at(case, places.signature, places.signature_length);
             let members = part_at(case, places.members, places.members_length);
             let records = part_at(case, places.records, places.records_length);
-            report_parts(
+            report_parts_in(
+                manner,
                 places.flags,
                 places.fault,
                 code,
@@ -92,4 +144,13 @@ pub fn build_message(case: &[u8], stack: &mut [u64], out: &mut [u8]) -> Report
             )
         }
     }
+}
+
+// The same in document 01's manner.
+pub fn build_message(case: &[u8], stack: &mut [u64], out: &mut [u8]) -> Report
+    ensures answers { λ r. ⌜ r ≡ reportOf (now (case .entry)) (length (now (stack .entry))) (length (now (out .entry))) ⌝ }
+    ensures leaves { λ r. ⌜ now (out .exit) ≡ reportedIn (now (case .entry)) (length (now (stack .entry))) (now (out .entry)) ⌝ }
+    ensures clears { λ r. ⌜ now (stack .exit) ≡ replicate (length (now (stack .entry))) 0 ⌝ }
+{
+    build_message_in(document_manner(), case, stack, out)
 }

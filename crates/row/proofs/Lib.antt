@@ -1,2 +1,4 @@
+pub mod Full
 pub mod Laws
 pub mod OfOpcode
+pub mod Places

@@ -2,13 +2,15 @@
 -- Assumes nothing.
 use Prim.Native.Nat.{ℕ, _+_, _≤_, _<_}
 use mathlib.Core.Path.{_≡_, refl, _∙_, sym, ap}
-use mathlib.Core.Bool.{Bool}
+use mathlib.Core.Bool.{Bool, true}
 use mathlib.Core.List.{List, [], _∷_}
+use mathlib.Core.Logic.{inl, inr}
 use lib.Dec.{T, eqb}
 use lib.ListN.{getD, drop}
-use Rattle.basics.specs.Choice.{pick, sameList}
-use Rattle.effects.specs.Rows.{Row, unmodelled, opaque, aload, aloadOf, carries, keeps, gets, calls}
-use Rattle.basics.proofs.Every.{every, every-from}
+use types.Run.{OneOf}
+use Rattle.basics.specs.Choice.{pick, both, sameList}
+use Rattle.effects.specs.Rows.{Row, unmodelled, opaque, aload, aloadOf, carries, keeps, gets, calls, puts, makes}
+use Rattle.basics.proofs.Every.{both-first, both-second, every, every-from}
 use Rattle.basics.proofs.Keys.{Unkeyed, orKey, every-unkeyed}
 use Rattle.basics.proofs.Same.{are-same}
 
@@ -21,6 +23,8 @@ number (carries takes places) = 4 ∷ takes ∷ places
 number keeps = 5 ∷ []
 number (gets takes) = 6 ∷ takes ∷ []
 number (calls takes) = 7 ∷ takes ∷ []
+number (puts takes) = 8 ∷ takes ∷ []
+number makes = 9 ∷ []
 
 abbrev numbered : List ℕ → Row
 numbered [] = unmodelled
@@ -32,7 +36,9 @@ numbered (k ∷ l) =
     (pick (eqb k 5) keeps
     (pick (eqb k 6) (gets (getD l 0 0))
     (pick (eqb k 7) (calls (getD l 0 0))
-    unmodelled))))))
+    (pick (eqb k 8) (puts (getD l 0 0))
+    (pick (eqb k 9) makes
+    unmodelled))))))))
 
 back : (row : Row) → numbered (number row) ≡ row
 back unmodelled = refl
@@ -43,6 +49,8 @@ back (carries takes places) = refl
 back keeps = refl
 back (gets takes) = refl
 back (calls takes) = refl
+back (puts takes) = refl
+back makes = refl
 
 -- rows: a table
 module _ (rows : ℕ → Row) where
@@ -52,6 +60,17 @@ module _ (rows : ℕ → Row) where
   known : (row : Row) (op : ℕ) → T (is row op) → row ≡ rows op
   known row op t = sym (back row) ∙ ap numbered (are-same (number row) (number (rows op)) t) ∙ back (rows op)
 
+  -- the keys of an arm have one row
+  abbrev pub allAre : Row → List ℕ → Bool
+  allAre row [] = true
+  allAre row (k ∷ ks) = both (is row k) (allAre row ks)
+
+  pub of-keys : (row : Row) (keys : List ℕ) → T (allAre row keys) → (op : ℕ) → OneOf keys op → row ≡ rows op
+  of-keys row [] t op o = absurd o
+  of-keys row (k ∷ []) t op e = known row k (both-first (is row k) _ t) ∙ ap rows (sym e)
+  of-keys row (k ∷ k′ ∷ ks) t op (inl e) = known row k (both-first (is row k) _ t) ∙ ap rows (sym e)
+  of-keys row (k ∷ k′ ∷ ks) t op (inr o) = of-keys row (k′ ∷ ks) (both-second (is row k) _ t) op o
+
   -- n opcodes from a on have the row that a rule gives them
   pub all-have :
       (row : ℕ → Row) (a n : ℕ) → T (every (λ k. is (row (a + k)) (a + k)) n) →
@@ -59,7 +78,14 @@ module _ (rows : ℕ → Row) where
   all-have row a n t op from below = known (row op) op (every-from (λ k. is (row k) k) a n t op from below)
 
   -- the same where no arm of a match has the opcode as a key; the last arm comes first in the list
+  pub unkeyed-have :
+      (row : ℕ → Row) (arms : List (List ℕ)) (a n : ℕ) → T (every (λ k. orKey arms (λ op. is (row op) op) (a + k)) n) →
+      (op : ℕ) → a ≤ op → op < a + n → Unkeyed arms op → row op ≡ rows op
+  unkeyed-have row arms a n t op from below rest =
+      known (row op) op (every-unkeyed (λ k. is (row k) k) arms a n t op from below rest)
+
+  -- and where it is one row
   pub all-unkeyed :
       (row : Row) (arms : List (List ℕ)) (a n : ℕ) → T (every (λ k. orKey arms (is row) (a + k)) n) →
       (op : ℕ) → a ≤ op → op < a + n → Unkeyed arms op → row ≡ rows op
-  all-unkeyed row arms a n t op from below rest = known row op (every-unkeyed (is row) arms a n t op from below rest)
+  all-unkeyed row = unkeyed-have (λ op. row)

@@ -1,17 +1,19 @@
--- What the code's rows stand for: the rows of document 01's model (crates/effects/specs/Rows.antt).
+-- What the code's rows stand for: the rows of the two models (crates/effects/specs/Rows.antt).
 -- Assumes nothing.
-use Prim.Native.Nat.{ℕ}
-use mathlib.Core.List.{List, [], _∷_}
-use Rattle.effects.specs.Rows.{Row, unmodelled, opaque, aload, aloadOf, carries, keeps, gets, calls}
+use Prim.Native.Nat.{ℕ, zero, suc, _+_}
+use mathlib.Core.List.{List, [], _∷_, _++_}
+use Rattle.effects.specs.Rows.{Row, unmodelled, opaque, aload, aloadOf, carries, keeps, gets, calls, puts, makes}
 use Rattle.row.specs.declared.Row.{Row as CodeRow}
-use Rattle.row.specs.declared.Row.the-variants.{Unmodelled, Opaque, Aload, AloadOf, Dup, Dup2, Swap, Keeps, Gets, Calls}
+use Rattle.row.specs.declared.Row.the-variants.{Unmodelled, Opaque, Aload, AloadOf, Copies, Swap, Keeps, Gets, Calls, Puts, Makes}
 
--- dup, dup2, swap: the places that their slots come from, 1 the topmost
-abbrev pub dupPlaces : List ℕ
-dupPlaces = 1 ∷ 1 ∷ []
+-- the places from one down to the topmost, 1
+abbrev pub downFrom : ℕ → List ℕ
+downFrom zero = []
+downFrom (suc n) = suc n ∷ downFrom n
 
-abbrev pub dup2Places : List ℕ
-dup2Places = 2 ∷ 1 ∷ 2 ∷ 1 ∷ []
+-- dup, dup_x1, dup_x2, dup2, dup2_x1, dup2_x2: the topmost slots, and on them all that are taken
+abbrev pub copyPlaces : ℕ → ℕ → List ℕ
+copyPlaces count under = downFrom count ++ downFrom (count + under)
 
 abbrev pub swapPlaces : List ℕ
 swapPlaces = 1 ∷ 2 ∷ []
@@ -21,9 +23,10 @@ rowFrom Unmodelled = unmodelled
 rowFrom (Opaque takes gives) = opaque takes gives
 rowFrom Aload = aload
 rowFrom (AloadOf local) = aloadOf local
-rowFrom Dup = carries 1 dupPlaces
-rowFrom Dup2 = carries 2 dup2Places
+rowFrom (Copies count under) = carries (count + under) (copyPlaces count under)
 rowFrom Swap = carries 2 swapPlaces
 rowFrom Keeps = keeps
 rowFrom (Gets takes) = gets takes
 rowFrom (Calls takes) = calls takes
+rowFrom (Puts takes) = puts takes
+rowFrom Makes = makes

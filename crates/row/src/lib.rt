@@ -1,8 +1,9 @@
-// What an opcode does to the slots (document 01, "The walk").
+// What an opcode does to the slots, in either model (document 01, "The walk"; document 02, request 1).
+use effects::Model;
 use opcode::Opcode;
 ghost use mathlib.Core.Path.{_≡_};
-ghost use Prim.Native.Nat.{_<_};
-ghost use Rattle.effects.specs.Rows.{rowOf};
+ghost use Prim.Native.Nat.{_<_, _≤_};
+ghost use Rattle.effects.specs.Rows.{rowOf, addedRow, fullRowOf, rowsOf};
 ghost use Rattle.row.specs.Code.{rowFrom};
 
 // What an opcode does to the slots.
@@ -13,8 +14,8 @@ pub enum Row {
     // Pushes the load of a local: the next byte names it, or the opcode does.
     Aload,
     AloadOf { local: usize },
-    Dup,
-    Dup2,
+    // dup and its five further forms: the topmost slots once more, below so many under them.
+    Copies { count: usize, under: usize },
     Swap,
     // checkcast: the list is kept.
     Keeps,
@@ -22,6 +23,10 @@ pub enum Row {
     Gets { takes: usize },
     // Takes slots and the arguments of the method that it cites, and pushes those of its return.
     Calls { takes: usize },
+    // Takes slots and those of the field that it cites.
+    Puts { takes: usize },
+    // multianewarray: takes as many slots as a byte says, and pushes one.
+    Makes,
 }
 
 // The rows of constants, loads and stores, 0 to 78.
@@ -55,7 +60,7 @@ fn local_row(op: u8) -> Row
     }
 }
 
-// The row of an opcode.
+// The row of an opcode in document 01's model.
 pub fn row_of(op: u8) -> Row
     ensures { λ r. ⌜ rowFrom r ≡ rowOf op ⌝ }
 {
@@ -65,8 +70,8 @@ pub fn row_of(op: u8) -> Row
     match op {
         Opcode::POP => Row::Opaque { takes: 1, gives: 0 },
         Opcode::POP2 => Row::Opaque { takes: 2, gives: 0 },
-        Opcode::DUP => Row::Dup,
-        Opcode::DUP2 => Row::Dup2,
+        Opcode::DUP => Row::Copies { count: 1, under: 0 },
+        Opcode::DUP2 => Row::Copies { count: 2, under: 0 },
         Opcode::SWAP => Row::Swap,
         Opcode::IINC => Row::Opaque { takes: 0, gives: 0 },
         Opcode::GETSTATIC => Row::Gets { takes: 0 },
@@ -80,5 +85,82 @@ pub fn row_of(op: u8) -> Row
         Opcode::CHECKCAST => Row::Keeps,
         Opcode::INSTANCEOF => Row::Opaque { takes: 1, gives: 1 },
         _ => Row::Unmodelled,
+    }
+}
+
+// The rows of arithmetic, 96 to 131: those of long and double have an odd number.
+fn arithmetic_row(op: u8) -> Row
+    requires { ⌜ 96 ≤ op ⌝ }
+    requires { ⌜ op < 132 ⌝ }
+    ensures { λ r. ⌜ rowFrom r ≡ addedRow op ⌝ }
+{
+    match op {
+        Opcode::INEG | Opcode::FNEG => Row::Opaque { takes: 1, gives: 1 },
+        Opcode::LNEG | Opcode::DNEG => Row::Opaque { takes: 2, gives: 2 },
+        Opcode::LSHL | Opcode::LSHR | Opcode::LUSHR => Row::Opaque { takes: 3, gives: 2 },
+        _ => {
+            if op % 2 == 0 {
+                return Row::Opaque { takes: 2, gives: 1 };
+            }
+            Row::Opaque { takes: 4, gives: 2 }
+        }
+    }
+}
+
+// The rows of conversions and comparisons, 133 to 152.
+fn conversion_row(op: u8) -> Row
+    requires { ⌜ 133 ≤ op ⌝ }
+    requires { ⌜ op < 153 ⌝ }
+    ensures { λ r. ⌜ rowFrom r ≡ addedRow op ⌝ }
+{
+    match op {
+        Opcode::I2L | Opcode::I2D | Opcode::F2L | Opcode::F2D => Row::Opaque { takes: 1, gives: 2 },
+        Opcode::L2I | Opcode::L2F | Opcode::D2I | Opcode::D2F => Row::Opaque { takes: 2, gives: 1 },
+        Opcode::L2D | Opcode::D2L => Row::Opaque { takes: 2, gives: 2 },
+        Opcode::LCMP | Opcode::DCMPL | Opcode::DCMPG => Row::Opaque { takes: 4, gives: 1 },
+        Opcode::FCMPL | Opcode::FCMPG => Row::Opaque { takes: 2, gives: 1 },
+        _ => Row::Opaque { takes: 1, gives: 1 },
+    }
+}
+
+// The row that the full model adds for an opcode.
+fn added_row(op: u8) -> Row
+    ensures { λ r. ⌜ rowFrom r ≡ addedRow op ⌝ }
+{
+    match op {
+        Opcode::LASTORE | Opcode::DASTORE => Row::Opaque { takes: 4, gives: 0 },
+        Opcode::IASTORE..=Opcode::SASTORE => Row::Opaque { takes: 3, gives: 0 },
+        Opcode::DUP_X1 => Row::Copies { count: 1, under: 1 },
+        Opcode::DUP_X2 => Row::Copies { count: 1, under: 2 },
+        Opcode::DUP2_X1 => Row::Copies { count: 2, under: 1 },
+        Opcode::DUP2_X2 => Row::Copies { count: 2, under: 2 },
+        Opcode::IADD..=Opcode::LXOR => arithmetic_row(op),
+        Opcode::I2L..=Opcode::DCMPG => conversion_row(op),
+        Opcode::PUTSTATIC => Row::Puts { takes: 0 },
+        Opcode::PUTFIELD => Row::Puts { takes: 1 },
+        Opcode::MONITORENTER..=Opcode::MONITOREXIT => Row::Opaque { takes: 1, gives: 0 },
+        Opcode::MULTIANEWARRAY => Row::Makes,
+        _ => Row::Unmodelled,
+    }
+}
+
+// The row of an opcode in the full model.
+fn full_row(op: u8) -> Row
+    ensures { λ r. ⌜ rowFrom r ≡ fullRowOf op ⌝ }
+{
+    let row = row_of(op);
+    if let Row::Unmodelled = row {
+        return added_row(op);
+    }
+    row
+}
+
+// The row of an opcode in a model.
+pub fn row_in(model: Model, op: u8) -> Row
+    ensures { λ r. ⌜ rowFrom r ≡ rowsOf model op ⌝ }
+{
+    match model {
+        Model::Document => row_of(op),
+        Model::Full => full_row(op),
     }
 }

@@ -10,7 +10,8 @@ use Rattle.leader.specs.Scan.{blockLeader}
 use Rattle.leader.specs.declared.Scan.{Scan}
 use Rattle.leader.specs.declared.Scan.the-variants.{Leader, Unmeasured}
 use Rattle.cell.specs.Cell.{unpacked}
-use Rattle.walk.specs.Room.{Roomed, lacks, fits, blockWalk}
+use Rattle.effects.specs.declared.Model.{Model}
+use Rattle.walk.specs.Room.{Roomed, lacks, fits, blockWalkIn}
 use Rattle.walk.specs.Walk.{done, failed}
 use Rattle.cell.specs.declared.Slot.{Slot}
 use Rattle.cell.specs.declared.Slot.the-variants.{Other}
@@ -29,12 +30,12 @@ traceOf scan depth (fits (failed block index reason)) = Traced scan block Other
 traceOf scan depth (fits (done slots block)) = Traced scan block (slotFrom slots depth)
 
 -- "0 where there is no leader"
-abbrev pub tracedBy : List ℕ → List ℕ → ℕ → ℕ → ℕ → ℕ → Scan → Trace
-tracedBy code members count fault depth room (Leader leader scan) =
-    traceOf scan depth (blockWalk code members count leader fault room)
-tracedBy code members count fault depth room (Unmeasured at scan) = Traced scan 0 Other
+abbrev pub tracedBy : Model → List ℕ → List ℕ → ℕ → ℕ → ℕ → ℕ → Scan → Trace
+tracedBy model code members count fault depth room (Leader leader scan) =
+    traceOf scan depth (blockWalkIn model code members count leader fault room)
+tracedBy model code members count fault depth room (Unmeasured at scan) = Traced scan 0 Other
 
--- the code, so many members, the fault, the depth of its reference, and the cells that are lent
-unfoldable pub traced : List ℕ → List ℕ → ℕ → ℕ → ℕ → ℕ → Trace
-traced code members count fault depth room =
-    tracedBy code members count fault depth room (blockLeader lengthOf [] code fault)
+-- in a model: the code, so many members, the fault, the depth of its reference, and the cells that are lent
+unfoldable pub traced : Model → List ℕ → List ℕ → ℕ → ℕ → ℕ → ℕ → Trace
+traced model code members count fault depth room =
+    tracedBy model code members count fault depth room (blockLeader lengthOf [] code fault)

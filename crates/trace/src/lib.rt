@@ -1,6 +1,7 @@
 // The cause of a fault, traced over the block that it lies in (document 01, "Action and cause").
 use cell::Slot;
 use cell::clear;
+use effects::Model;
 use leader::Scan;
 use walk::Walk;
 ghost use Prim.Native.Nat.{_-_, _≤_};
@@ -9,7 +10,7 @@ ghost use lib.Dec.{ltb};
 ghost use lib.ListN.{length, getD, replicate};
 ghost use Rattle.basics.specs.Choice.{pick};
 ghost use Rattle.cell.specs.Cell.{unpacked};
-ghost use Rattle.walk.specs.Room.{blockWalk};
+ghost use Rattle.walk.specs.Room.{blockWalkIn};
 ghost use Rattle.cell.specs.declared.Slot.the-variants.{Other};
 ghost use Rattle.trace.specs.Trace.{traceOf, traced};
 
@@ -38,8 +39,9 @@ fn slot_from(stack: &[u64], height: usize, depth: usize) -> Slot
     Slot::Other
 }
 
-// Walks a block and looks at the slot at the depth. The stack is zero afterwards.
+// Walks a block in a model and looks at the slot at the depth. The stack is zero afterwards.
 fn trace_block(
+    model: Model,
     code: &[u8],
     members: &[u8],
     count: usize,
@@ -49,10 +51,10 @@ fn trace_block(
     scan: usize,
     stack: &mut [u64],
 ) -> Trace
-    ensures answers { λ r. ⌜ r ≡ traceOf scan depth (blockWalk (now (code .entry)) (now (members .entry)) count leader fault (length (now (stack .entry)))) ⌝ }
+    ensures answers { λ r. ⌜ r ≡ traceOf scan depth (blockWalkIn model (now (code .entry)) (now (members .entry)) count leader fault (length (now (stack .entry)))) ⌝ }
     ensures leaves { λ r. ⌜ now (stack .exit) ≡ replicate (length (now (stack .entry))) 0 ⌝ }
 {
-    match block::simulate_block(code, members, count, leader, fault, stack) {
+    match block::simulate_block_in(model, code, members, count, leader, fault, stack) {
         Walk::NoRoom { at } => Trace::NoRoom { at },
         Walk::Failed { count: block } => Trace::Traced {
             scan,
@@ -70,8 +72,9 @@ fn trace_block(
     }
 }
 
-// Traces the cause of a fault whose reference lies at a depth.
+// Traces the cause of a fault, in a model, whose reference lies at a depth.
 pub fn trace_cause(
+    model: Model,
     code: &[u8],
     members: &[u8],
     count: usize,
@@ -79,14 +82,24 @@ pub fn trace_cause(
     depth: usize,
     stack: &mut [u64],
 ) -> Trace
-    ensures answers { λ r. ⌜ r ≡ traced (now (code .entry)) (now (members .entry)) count fault depth (length (now (stack .entry))) ⌝ }
+    ensures answers { λ r. ⌜ r ≡ traced model (now (code .entry)) (now (members .entry)) count fault depth (length (now (stack .entry))) ⌝ }
     ensures leaves { λ r. ⌜ now (stack .exit) ≡ replicate (length (now (stack .entry))) 0 ⌝ }
 {
     match leader::block_leader(code, fault) {
         Scan::Leader {
             at: leader,
             count: scan,
-        } => trace_block(code, members, count, leader, fault, depth, scan, stack),
+        } => trace_block(
+            model,
+            code,
+            members,
+            count,
+            leader,
+            fault,
+            depth,
+            scan,
+            stack,
+        ),
         Scan::Unmeasured { at: _, count: scan } => {
             clear(stack);
             Trace::Traced {
