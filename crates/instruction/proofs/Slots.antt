@@ -1,22 +1,28 @@
--- A call takes few slots: a byte of its descriptor gives two at most, and its row takes one at most.
+-- A call and a store to a field take few slots: a byte of a method's descriptor gives two at most, a field has two at most, and a
+-- row takes one at most.
 -- Assumes nothing.
-use Prim.Native.Nat.{ℕ, zero, suc, _*_, _≤_, _<_}
+use Prim.Native.Nat.{ℕ, zero, suc, _+_, _*_, _≤_, _<_}
 use native.Mathlib.Omega.{arith}
 use mathlib.Core.Path.{_≡_, sym, subst}
 use mathlib.Core.Bool.{Bool, true, false}
 use mathlib.Core.List.{List}
-use lib.Dec.{T, eqb, leb, leb→le}
+use lib.Dec.{T, eqb, leb, ltb, leb→le}
 use lib.ListN.{length}
-use Rattle.basics.specs.Bytes.{byteAt}
+use Rattle.basics.specs.Bytes.{byteAt, u16At}
 use Rattle.basics.specs.Choice.{pick}
 use Rattle.basics.proofs.Every.{every-at}
-use Rattle.descriptor.specs.Readers.{slotsOf, judged, parameters}
-use Rattle.fieldtype.specs.Types.{fieldTypeAt, Types, over, unread, one, typesStep, listOver, typesFrom, typesAt, typesOf}
+use Rattle.descriptor.specs.Readers.{slotsOf, judged, parameters, fieldSlots}
+use Rattle.descriptor.specs.declared.Slots.the-variants.{Slots as SlotsOf, Unreadable as NoSlots}
+use Rattle.fieldtype.specs.Types.{isWide, fieldTypeAt, Types, over, unread, one, typesStep, listOver, typesFrom, typesAt, typesOf}
 use Rattle.descriptor.specs.declared.Params.the-variants.{Read, Unreadable}
 use Rattle.fieldtype.specs.declared.Taken.{Taken}
 use Rattle.fieldtype.specs.declared.Taken.the-variants as taken
 use Rattle.descriptor.proofs.Listing.{one-or-two}
-use Rattle.effects.specs.Rows.{Row, unmodelled, opaque, aload, aloadOf, carries, keeps, gets, calls, rowOf}
+use Rattle.effects.specs.Lookup.{Known, missing, known, Lookup}
+use Rattle.effects.specs.Rows.{Row, unmodelled, opaque, aload, aloadOf, carries, keeps, gets, calls, puts, makes, rowOf, addedRow, fullRowOf, rowsOf}
+use Rattle.effects.specs.declared.Model.{Model}
+use Rattle.effects.specs.declared.Model.the-variants.{Document, Full}
+use Rattle.instruction.specs.Lookup.{slotsKnown, citedSlots}
 
 -- ---- arguments
 
@@ -48,6 +54,27 @@ few-slots text slots end e = by-test (eqb (byteAt text 0) 40) e
     by-test true e = omega (arith, judged-slots (typesOf text) (slotsOf (typesOf text)) slots end e, few-from text (length text) 1)
     by-test false e = let z : _≡_ {A = ℕ} 0 1 = cc in absurd (omega arith)
 
+-- ---- a field
+
+few-field : (descriptor : List ℕ) → fieldSlots descriptor ≤ 2
+unfolding fieldSlots
+few-field descriptor = by-test (isWide (byteAt descriptor 0))
+  where
+    by-test : (b : Bool) → pick b 2 1 ≤ 2
+    by-test true = omega arith
+    by-test false = omega arith
+
+pub few-cited :
+    (lookup : Lookup) (code : List ℕ) (pc slots : ℕ) → citedSlots lookup code pc ≡ SlotsOf slots → slots ≤ 2
+few-cited lookup code pc slots e = by-test (ltb (pc + 2) (length code)) (lookup 0 (u16At code (pc + 1))) e
+  where
+    by-test : (b : Bool) (k : Known) → pick b (slotsKnown k) NoSlots ≡ SlotsOf slots → slots ≤ 2
+    by-test true missing e = let z : _≡_ {A = ℕ} 0 1 = cc in absurd (omega arith)
+    by-test true (known descriptor) e =
+        let same : slots ≡ fieldSlots descriptor = cc in
+        omega (arith, same, few-field descriptor)
+    by-test false k e = let z : _≡_ {A = ℕ} 0 1 = cc in absurd (omega arith)
+
 -- ---- rows
 
 abbrev fewTaken : Row → Bool
@@ -59,8 +86,17 @@ fewTaken (carries takes places) = true
 fewTaken keeps = true
 fewTaken (gets takes) = true
 fewTaken (calls takes) = leb takes 1
+fewTaken (puts takes) = leb takes 1
+fewTaken makes = true
 
-pub one-taken : (op takes : ℕ) → op < 256 → calls takes ≡ rowOf op → takes ≤ 1
-unfolding rowOf
-one-taken op takes below e =
-    leb→le takes 1 (subst (λ (r : Row). T (fewTaken r)) (sym e) (every-at (λ k. fewTaken (rowOf k)) 256 tt op below))
+few-taken : (model : Model) (op : ℕ) → op < 256 → T (fewTaken (rowsOf model op))
+unfolding rowOf addedRow fullRowOf
+few-taken Document op below = every-at (λ k. fewTaken (rowOf k)) 256 tt op below
+few-taken Full op below = every-at (λ k. fewTaken (fullRowOf k)) 256 tt op below
+
+module _ (model : Model) (op takes : ℕ) (below : op < 256) where
+  pub one-called : calls takes ≡ rowsOf model op → takes ≤ 1
+  one-called e = leb→le takes 1 (subst (λ (r : Row). T (fewTaken r)) (sym e) (few-taken model op below))
+
+  pub one-put : puts takes ≡ rowsOf model op → takes ≤ 1
+  one-put e = leb→le takes 1 (subst (λ (r : Row). T (fewTaken r)) (sym e) (few-taken model op below))

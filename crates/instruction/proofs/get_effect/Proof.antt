@@ -1,38 +1,36 @@
--- `instruction::get_effect` meets its contract. No member, or the slots of the field.
+-- `instruction::get_effect` meets its contract. A case on the slots of the field that is read.
 -- Assumes nothing.
-use mathlib.Core.Path.{_∙_, ap}
+use mathlib.Core.Path.{_∙_, sym}
 use borrow.Author.Needs.{needs}
-use Rattle.descriptor.specs.Readers.{fieldSlots}
-use Rattle.instruction.proofs.Effects as laws
+use Rattle.instruction.specs.Lookup.{lookupBy}
+use Rattle.instruction.proofs.Effects.{get-none, got}
 use Rattle.instruction.proofs.get_effect.Statement.{statement}
 use Rattle.instruction.proofs.get_effect.Tie as tie
 
-cited-texts-requires : tie.Need-cited-texts-requires
-cited-texts-requires c κs = search needs
+cited-slots-requires : tie.Need-cited-slots-requires
+cited-slots-requires c κs = search needs
+
+enum-known-gives : tie.Need-enum-known-gives
+enum-known-gives c = search needs
+
+enum-told : tie.Need-enum-told
+enum-told c = search needs
 
 returns : tie.Need-returns
 returns c =
-    let found = c .before in
-    let a = found .before .before .before .before .args in
-    laws.get-none (a .code .now) (a .pc) (a .members .now) (a .count) (a .table .now) (a .takes) _
-    (found .cited-texts .ensures) (c .if1 .taken)
-
-descriptor-of-requires : tie.Need-descriptor-of-requires
-descriptor-of-requires c κs = search needs
-
-slots-of-field-type-requires : tie.Need-slots-of-field-type-requires
-slots-of-field-type-requires c κs = search needs
+    let cited = c .before .before in
+    let a = cited .before .before .before .before .args in
+    get-none (a .code .now) (a .pc) (lookupBy (a .members .now) (a .count) (a .table .now)) (a .takes)
+    (sym (cited .cited-slots .ensures) ∙ c .enum-told .given .1)
 
 returns-2 : tie.Need-returns-2
 returns-2 c =
-    let part = c .before in
-    let found = part .before .before in
-    let a = found .before .before .before .before .args in
-    laws.got (a .code .now) (a .pc) (a .members .now) (a .count) (a .table .now) (a .takes) _
-    (found .cited-texts .ensures) _ (part .before .if1 .left)
-    (c .slots-of-field-type .ensures ∙ ap fieldSlots (part .descriptor-of .ensures))
+    let read = c .before in
+    let cited = read .before .before in
+    let a = cited .before .before .before .before .args in
+    got (a .code .now) (a .pc) (lookupBy (a .members .now) (a .count) (a .table .now)) (a .takes) _
+    (sym (cited .cited-slots .ensures) ∙ read .gives .given .1)
 
 pub get-effect-spec : {M : Type 1} → statement M
 get-effect-spec =
-    tie.close
-    (tie.spec cited-texts-requires returns descriptor-of-requires slots-of-field-type-requires returns-2)
+    tie.close (tie.spec cited-slots-requires enum-known-gives enum-told returns returns-2)
