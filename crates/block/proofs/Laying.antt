@@ -6,15 +6,15 @@ use mathlib.Core.Path.{_≡_, refl, _∙_, sym, ap, ap₂}
 use mathlib.Core.Bool.{Bool, true, false}
 use mathlib.Core.List.{List, [], _∷_, _++_, append-assoc}
 use lib.Dec.{leb}
-use lib.ListN.{length, getD, take, drop, set, replicate, length-append, length-replicate, length-set, take-append-drop}
+use lib.ListN.{length, getD, take, drop, set, replicate, length-append, length-replicate, take-append-drop}
 use lib.ListN.{replicate-append-replicate}
-use lib.Seq.{length-take-le, take-take, take-suc, drop-cons, getD-take, getD-set-other, drop-append-add, take-at, set-at}
+use lib.Seq.{length-take-le, take-take, take-suc, drop-cons, getD-take, drop-append-add, take-at, set-at}
 use lib.Seq.{drop-set-lt, take-set-lt, take-suc-set}
 use borrow.Author.Tests.{le-leb, lt-leb}
 use Rattle.cell.specs.Cell.{packed}
 use Rattle.cell.specs.declared.Cell.the-variants.{Held, TooLarge}
 use Rattle.cell.proofs.Laws.{held-so, too-large}
-use Rattle.row.specs.Code.{dupPlaces, dup2Places, swapPlaces}
+use Rattle.row.specs.Code.{swapPlaces}
 use Rattle.block.specs.Inner.{Clean, Laid}
 use Rattle.walk.specs.Room.{shown}
 use Rattle.walk.specs.Walk.{cells, Push, load, carried, does, refused, Made, made, pushed, applied, tooLarge}
@@ -55,7 +55,7 @@ module _ (c : List ℕ) (h : ℕ) (clean : Clean c h) where
   high = length-take-le h c (clean .high)
 
   -- the cells behind the slots are zero
-  zeros : (j : ℕ) → drop (h + j) c ≡ replicate (length c - (h + j)) 0
+  pub zeros : (j : ℕ) → drop (h + j) c ≡ replicate (length c - (h + j)) 0
   zeros j =
       let at : h + j ≡ length slots + j = omega (arith, high) in
       let left : length c - length slots - j ≡ length c - (h + j) = omega (arith, high) in
@@ -183,29 +183,6 @@ module _ (c : List ℕ) (h : ℕ) (clean : Clean c h) where
       let next : h - 1 ≡ suc (h - 2) = omega arith in
       ap (λ (k : ℕ). take k c) next ∙ take-suc c (h - 2) 0 (omega (arith, clean .high))
 
-  last-two : 2 ≤ h → take h c ≡ take (h - 2) c ++ (from-top 2 ∷ from-top 1 ∷ [])
-  last-two l =
-      last (omega arith) ∙ ap (λ (s : List ℕ). s ++ from-top 1 ∷ []) (last-but l)
-      ∙ append-assoc (take (h - 2) c) (from-top 2 ∷ []) (from-top 1 ∷ [])
-
-  pub dup-is : (pc : ℕ) → 1 ≤ h → applied cells pc (does 1 (carried dupPlaces)) slots ≡ made (slots ++ from-top 1 ∷ [])
-  dup-is pc l =
-      enough pc 1 (carried dupPlaces) l
-      ∙ ap made
-      (rw (slot 1 (omega arith) l)
-      (sym (append-assoc (take (h - 1) c) (from-top 1 ∷ []) (from-top 1 ∷ []))
-      ∙ ap (λ (s : List ℕ). s ++ from-top 1 ∷ []) (sym (last l))))
-
-  pub dup2-is :
-      (pc : ℕ) → 2 ≤ h →
-      applied cells pc (does 2 (carried dup2Places)) slots ≡ made (slots ++ (from-top 2 ∷ from-top 1 ∷ []))
-  dup2-is pc l =
-      enough pc 2 (carried dup2Places) l
-      ∙ ap made
-      (rw (slot 1 (omega arith) (omega arith), slot 2 (omega arith) l)
-      (sym (append-assoc (take (h - 2) c) (from-top 2 ∷ from-top 1 ∷ []) (from-top 2 ∷ from-top 1 ∷ []))
-      ∙ ap (λ (s : List ℕ). s ++ (from-top 2 ∷ from-top 1 ∷ [])) (sym (last-two l))))
-
   pub swap-is :
       (pc : ℕ) → 2 ≤ h →
       applied cells pc (does 2 (carried swapPlaces)) slots ≡ made (take (h - 2) c ++ (from-top 1 ∷ from-top 2 ∷ []))
@@ -250,33 +227,3 @@ pub clean-shown : (room : ℕ) (slots : List ℕ) → length slots ≤ room → 
 clean-shown room slots fits =
     let size : length (shown room slots) ≡ room = shown-length room slots fits in
     record { high = omega (arith, size); zeros = sym (ap₂ shown size (shown-take room slots)) }
-
--- ---- two cells on top
-
-module _ (c : List ℕ) (h : ℕ) (clean : Clean c h) where
-  pub two-length : (u v : ℕ) → length (take h c ++ (u ∷ v ∷ [])) ≡ h + 2
-  two-length u v = omega (arith, length-append (take h c) (u ∷ v ∷ []), high c h clean)
-
-  two-shown : (u v : ℕ) → h + 1 < length c → set (set c h u) (h + 1) v ≡ shown (length c) (take h c ++ (u ∷ v ∷ []))
-  two-shown u v room =
-      let first : List ℕ = take h c ++ u ∷ [] in
-      let size : length first ≡ h + 1 = top-length c h clean u in
-      let once : set c h u ≡ shown (length c) first = top-shown c h clean u (omega arith) in
-      let cells-so : List ℕ = shown (length c) first in
-      let whole : length cells-so ≡ length c = ap length (sym once) ∙ length-set c h u in
-      let start : take (length first) cells-so ≡ first = shown-take (length c) first in
-      let twice : set cells-so (length first) v ≡ shown (length cells-so) (take (length first) cells-so ++ v ∷ []) =
-      top-shown cells-so (length first) (clean-shown (length c) first (omega arith)) v (omega (arith, whole)) in
-      ap₂ (λ (s : List ℕ) (k : ℕ). set s k v) once (sym size) ∙ twice
-      ∙ ap₂ (λ (k : ℕ) (s : List ℕ). shown k (s ++ v ∷ [])) whole start
-      ∙ ap (shown (length c)) (append-assoc (take h c) (u ∷ []) (v ∷ []))
-
-  -- the second is read behind the first store
-  pub dup2-shown :
-      2 ≤ h → h + 1 < length c →
-      set (set c h (from-top c h clean 2)) (h + 1) (getD (set c h (from-top c h clean 2)) (h - 1) 0)
-      ≡ shown (length c) (take h c ++ (from-top c h clean 2 ∷ from-top c h clean 1 ∷ []))
-  dup2-shown l room =
-      ap (λ (v : ℕ). set (set c h (from-top c h clean 2)) (h + 1) v)
-      (getD-set-other c h (h - 1) (from-top c h clean 2) 0 (λ e. omega arith))
-      ∙ two-shown (from-top c h clean 2) (from-top c h clean 1) room

@@ -11,9 +11,10 @@ use borrow.Author.Tests.{le-leb}
 use Rattle.basics.specs.Bytes.{AreBytes}
 use Rattle.effects.specs.Agreement.{Sized}
 use Rattle.effects.specs.Lookup.{Lookup, lookupIn}
-use Rattle.effects.specs.Rows.{Row, rowOf}
+use Rattle.effects.specs.Rows.{Row, rowsOf}
+use Rattle.effects.specs.declared.Model.{Model}
 use Rattle.block.specs.Inner.{Clean, stepOf, steppedIn, Stepped}
-use Rattle.walk.specs.Room.{completed, Roomed, fits, blockWalkBy, blockWalk, answerOf, shown, cellsOf, Walks}
+use Rattle.walk.specs.Room.{completed, Roomed, fits, blockWalkBy, blockWalkIn, answerOf, shown, cellsOf, WalksIn}
 use Rattle.walk.specs.Walk.{Reason, overshot, cells, Outcome, goes, failed, walk}
 use Rattle.walk.proofs.Step.{onward}
 use Rattle.block.specs.declared.Step.{Step}
@@ -178,9 +179,10 @@ module _ (rows : ℕ → Row) (code members : List ℕ) (count leader fault : �
             i .1 .zeros ∙ ap (λ (k : ℕ). shown k (take height stack)) (i .0 ∙ same),
           )
 
--- by document 01's rows
+-- by the rows of a model
 pub walks :
-    (code members : List ℕ) (count leader fault : ℕ) (entry left : List ℕ) (answer : Walk) →
-    Met rowOf code members count leader fault entry left answer → Walks code members count leader fault entry answer left
-unfolding blockWalk
-walks code members count leader fault entry left answer met = record { answers = met .0; leaves = met .1 }
+    (model : Model) (code members : List ℕ) (count leader fault : ℕ) (entry left : List ℕ) (answer : Walk) →
+    Met (rowsOf model) code members count leader fault entry left answer →
+    WalksIn model code members count leader fault entry answer left
+unfolding blockWalkIn
+walks model code members count leader fault entry left answer met = record { answers = met .0; leaves = met .1 }

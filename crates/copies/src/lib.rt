@@ -2,8 +2,8 @@
 ghost use mathlib.Core.Path.{_≡_};
 ghost use Rattle.copies.specs.Copies.{copiedBelow};
 
-// Of the first `height` cells, copies the topmost `count` below the `under` cells that lie under them. Where there are too few cells,
-// nothing is done.
+// Of the first `height` cells, copies the topmost `count` below the `under` cells that lie under them. Where there are too few
+// cells, nothing is done.
 pub fn copy_below(cells: &mut [u64], height: usize, count: usize, under: usize)
     ensures { λ r. ⌜ now (cells .exit) ≡ copiedBelow (now (cells .entry)) height count under ⌝ }
 {
@@ -20,8 +20,10 @@ pub fn copy_below(cells: &mut [u64], height: usize, count: usize, under: usize)
         return;
     }
     let start = height - count - under;
+    // where none lie under them, the copied cells stay in their places
+    let last = if under == 0 { height } else { start };
     let mut i = height + count;
-    while start < i {
+    while last < i {
         i -= 1;
         if i < start + count {
             cells[i] = cells[i + count + under];

@@ -6,7 +6,7 @@ use lib.ListN.{take}
 use borrow.Author.Needs.{needs}
 use Rattle.jvms.specs.Stack.{keyAt}
 use Rattle.effects.specs.Lookup.{Lookup, lookupIn}
-use Rattle.effects.specs.Rows.{rowOf}
+use Rattle.effects.specs.Rows.{rowsOf}
 use Rattle.walk.specs.Walk.{effectBy}
 use Rattle.instruction.specs.Code.{effectFrom, bare}
 use Rattle.instruction.proofs.Laws.{looks-alike}
@@ -17,7 +17,7 @@ use Rattle.block.proofs.step_at.Tie as tie
 returns : tie.Need-returns
 returns c =
     let a = c .before .before .before .before .before .args in
-    stepping.past-end rowOf (lookupIn (a .members .now) (a .count)) (a .code .now) (a .fault) (a .pc) (a .stack .now)
+    stepping.past-end (rowsOf (a .model)) (lookupIn (a .members .now) (a .count)) (a .code .now) (a .fault) (a .pc) (a .stack .now)
     (take (a .height) (a .stack .now)) (c .if1 .taken)
 
 shared-slice-read-op : tie.Need-shared-slice-read-op
@@ -31,12 +31,12 @@ known :
     (c : tie.After-effect-of) →
     let a = c .before .before .before .before .before .before .before .args in
     effectFrom (c .effect-of .result)
-    ≡ bare (effectBy (lookupIn (a .members .now) (a .count)) (a .code .now) (a .pc) (rowOf (keyAt (a .code .now) (a .pc))))
+    ≡ bare (effectBy (lookupIn (a .members .now) (a .count)) (a .code .now) (a .pc) (rowsOf (a .model) (keyAt (a .code .now) (a .pc))))
 known c =
     let start = c .before .before .before .before .before .before .before in
     let a = start .args in
     c .effect-of .ensures
-    ∙ ap (λ (look : Lookup). bare (effectBy look (a .code .now) (a .pc) (rowOf (keyAt (a .code .now) (a .pc)))))
+    ∙ ap (λ (look : Lookup). bare (effectBy look (a .code .now) (a .pc) (rowsOf (a .model) (keyAt (a .code .now) (a .pc)))))
     (looks-alike (a .members .now) (a .count) (a .table .now) (start .pre .1 .0))
 
 fixed-by-requires : tie.Need-fixed-by-requires
@@ -68,7 +68,7 @@ returns-2 c =
     let laid = c .before .before .before .before in
     let read = laid .before .before .before in
     let a = read .before .before .before .before .before .before .before .args in
-    stepping.stops-at rowOf (lookupIn (a .members .now) (a .count)) (a .code .now) (a .fault) (a .pc) (a .stack .now)
+    stepping.stops-at (rowsOf (a .model)) (lookupIn (a .members .now) (a .count)) (a .code .now) (a .fault) (a .pc) (a .stack .now)
     (take (a .height) (a .stack .now)) (omega arith) _ (known read) _
     (rw (c .enum-told .given .1) at (laid .apply .ensures))
 
@@ -80,7 +80,7 @@ returns-3 c =
     let laid = c .before .before .before .before in
     let read = laid .before .before .before in
     let a = read .before .before .before .before .before .before .before .args in
-    stepping.lacks-at rowOf (lookupIn (a .members .now) (a .count)) (a .code .now) (a .fault) (a .pc) (a .stack .now)
+    stepping.lacks-at (rowsOf (a .model)) (lookupIn (a .members .now) (a .count)) (a .code .now) (a .fault) (a .pc) (a .stack .now)
     (take (a .height) (a .stack .now)) (omega arith) _ (known read) _
     (rw (c .enum-told2 .given .1) at (laid .apply .ensures))
 
@@ -95,7 +95,7 @@ returns-4 c =
     let a = start .args in
     let size =
     laid .before .before .fixed-by .ensures ∙ start .pre .0 .entries _ (read .before .shared-slice-known4 .given (a .pc) .fits) in
-    stepping.lands-at rowOf (lookupIn (a .members .now) (a .count)) (a .code .now) (a .fault) (a .pc) (a .stack .now)
+    stepping.lands-at (rowsOf (a .model)) (lookupIn (a .members .now) (a .count)) (a .code .now) (a .fault) (a .pc) (a .stack .now)
     (take (a .height) (a .stack .now)) (omega arith) _ (known read) _ _ _ _ size
     (rw (c .before .before .next .given .1) at (laid .apply .ensures))
     (c .land .ensures)

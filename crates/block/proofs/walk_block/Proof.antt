@@ -7,18 +7,18 @@ use lib.ListN.{length}
 use lib.Seq.{length-take-le}
 use borrow.Author.Needs.{needs}
 use Rattle.basics.specs.Bytes.{AreBytes}
-use Rattle.effects.specs.Rows.{rowOf}
-use Rattle.effects.proofs.Rows.{rows-sized}
+use Rattle.effects.specs.Rows.{rowsOf}
+use Rattle.effects.proofs.Rows.{model-sized}
 use Rattle.block.proofs.Looping as looping
 use Rattle.block.proofs.walk_block.Statement.{statement}
 use Rattle.block.proofs.walk_block.Tie as tie
 
 abbrev Inv-loop : tie.InvT-loop
-Inv-loop code members count table leader fault stack₀ lengths pc₀ height₀ completed₀ stack pc height completed =
-    looping.Inv rowOf code members count leader fault (length stack₀) stack pc height completed
+Inv-loop model code members count table leader fault stack₀ lengths pc₀ height₀ completed₀ stack pc height completed =
+    looping.Inv (rowsOf model) code members count leader fault (length stack₀) stack pc height completed
 
 abbrev μ-loop : tie.MeasureT-loop
-μ-loop code members count table leader fault stack₀ lengths pc₀ height₀ completed₀ stack pc height completed = fault - pc
+μ-loop model code members count table leader fault stack₀ lengths pc₀ height₀ completed₀ stack pc height completed = fault - pc
 
 clear-requires : tie.Need-clear-requires Inv-loop μ-loop
 clear-requires c κs = search needs
@@ -30,7 +30,7 @@ loop-holds : tie.Need-loop-holds Inv-loop μ-loop
 loop-holds c =
     let first = c .before .before .before in
     let a = first .before .before .before .before .before .before .args in
-    looping.starts rowOf (a .code .now) (a .members .now) (a .count) (a .leader) (a .fault) (length (a .stack .now)) _
+    looping.starts (rowsOf (a .model)) (a .code .now) (a .members .now) (a .count) (a .leader) (a .fault) (length (a .stack .now)) _
     (first .clear .ensures)
 
 step-at-requires : tie.Need-step-at-requires Inv-loop μ-loop
@@ -56,7 +56,7 @@ give-up-requires c κs =
     let at = turn .before .before .before .before .loop in
     let first = turn .before .before .before .before .before .before .before .before in
     let a = first .before .before .before .before .before .before .args in
-    looping.clean-stopped rowOf (a .code .now) (a .members .now) (a .count) (a .leader) (a .fault) (a .stack .now) _
+    looping.clean-stopped (rowsOf (a .model)) (a .code .now) (a .members .now) (a .count) (a .leader) (a .fault) (a .stack .now) _
     (first .clear .ensures) (at .stack) (at .pc) (at .height) (at .completed) (at .inv) _
     (rw (c .before .enum-told .given .1) at (turn .step-at .ensures))
 
@@ -70,8 +70,8 @@ returns c =
     let first = turn .before .before .before .before .before .before .before .before in
     let a = first .before .before .before .before .before .before .args in
     rw (c .before .before .give-up .ensures .0)
-    (looping.walks _ _ _ _ _ _ _ _
-    (looping.ends-stopped rowOf (a .code .now) (a .members .now) (a .count) (a .leader) (a .fault) (a .stack .now) _
+    (looping.walks (a .model) _ _ _ _ _ _ _ _
+    (looping.ends-stopped (rowsOf (a .model)) (a .code .now) (a .members .now) (a .count) (a .leader) (a .fault) (a .stack .now) _
     (first .clear .ensures) (at .stack) (at .pc) (at .height) (at .completed) (at .inv) _ _
     (c .before .before .give-up .ensures .1) (turn .before .before .before .loop-test .taken)
     (rw (c .before .before .before .before .enum-told .given .1) at (turn .step-at .ensures))))
@@ -85,7 +85,7 @@ give-up-requires-2 c κs =
     let at = turn .before .before .before .before .loop in
     let first = turn .before .before .before .before .before .before .before .before in
     let a = first .before .before .before .before .before .before .args in
-    looping.clean-lacked rowOf (a .code .now) (a .members .now) (a .count) (a .leader) (a .fault) (a .stack .now) _
+    looping.clean-lacked (rowsOf (a .model)) (a .code .now) (a .members .now) (a .count) (a .leader) (a .fault) (a .stack .now) _
     (first .clear .ensures) (at .stack) (at .pc) (at .height) (at .completed) (at .inv) _
     (rw (c .before .enum-told2 .given .1) at (turn .step-at .ensures))
 
@@ -99,8 +99,8 @@ returns-2 c =
     let first = turn .before .before .before .before .before .before .before .before in
     let a = first .before .before .before .before .before .before .args in
     rw (c .before .before .give-up2 .ensures .0)
-    (looping.walks _ _ _ _ _ _ _ _
-    (looping.ends-lacked rowOf (a .code .now) (a .members .now) (a .count) (a .leader) (a .fault) (a .stack .now) _
+    (looping.walks (a .model) _ _ _ _ _ _ _ _
+    (looping.ends-lacked (rowsOf (a .model)) (a .code .now) (a .members .now) (a .count) (a .leader) (a .fault) (a .stack .now) _
     (first .clear .ensures) (at .stack) (at .pc) (at .height) (at .completed) (at .inv) _ _
     (c .before .before .give-up2 .ensures .1) (turn .before .before .before .loop-test .taken)
     (rw (c .before .before .before .before .enum-told2 .given .1) at (turn .step-at .ensures))))
@@ -111,8 +111,8 @@ enum-told-3 c = search needs
 clear-requires-2 : tie.Need-clear-requires-2 Inv-loop μ-loop
 clear-requires-2 c κs = search needs
 
-add-t32 : tie.Need-add-t32 Inv-loop μ-loop
-add-t32 c = omega (arith, counted (c .before .before .before .before .before .before .before .before))
+add-t33 : tie.Need-add-t33 Inv-loop μ-loop
+add-t33 c = omega (arith, counted (c .before .before .before .before .before .before .before .before))
 
 same-length-3 : tie.Need-same-length-3 Inv-loop μ-loop
 same-length-3 c = search needs
@@ -123,8 +123,8 @@ returns-3 c =
     let at = turn .before .before .before .before .loop in
     let first = turn .before .before .before .before .before .before .before .before in
     let a = first .before .before .before .before .before .before .args in
-    looping.walks _ _ _ _ _ _ _ _
-    (looping.ends-passed rowOf (a .code .now) (a .members .now) (a .count) (a .leader) (a .fault) (a .stack .now) _
+    looping.walks (a .model) _ _ _ _ _ _ _ _
+    (looping.ends-passed (rowsOf (a .model)) (a .code .now) (a .members .now) (a .count) (a .leader) (a .fault) (a .stack .now) _
     (first .clear .ensures) (at .stack) (at .pc) (at .height) (at .completed) (at .inv) _ _
     (c .before .before .clear2 .ensures) (turn .before .before .before .loop-test .taken) (omega arith)
     (rw (c .before .before .before .before .enum-told3 .given .1) at (turn .step-at .ensures)))
@@ -143,8 +143,8 @@ loop-less c =
     let start = first .before .before .before .before .before .before in
     let a = start .args in
     let bytes : AreBytes (a .code .now) = λ i. first .before .before .before .before .before .shared-slice-known .given i .fits in
-    let on = looping.up rowOf (a .code .now) (a .members .now) (a .count) (a .leader) (a .fault) (length (first .clear .last .0))
-    (at .stack) (at .pc) (at .height) (at .completed) (at .inv) rows-sized bytes (turn .before .before .before .loop-test .taken) _ _ _
+    let on = looping.up (rowsOf (a .model)) (a .code .now) (a .members .now) (a .count) (a .leader) (a .fault) (length (first .clear .last .0))
+    (at .stack) (at .pc) (at .height) (at .completed) (at .inv) (model-sized (a .model)) bytes (turn .before .before .before .loop-test .taken) _ _ _
     (rw (c .before .next .given .1) at (turn .step-at .ensures)) in
     omega (arith, on, turn .before .before .before .loop-test .taken)
 
@@ -156,8 +156,8 @@ loop-again c =
     let start = first .before .before .before .before .before .before in
     let a = start .args in
     let bytes : AreBytes (a .code .now) = λ i. first .before .before .before .before .before .shared-slice-known .given i .fits in
-    looping.again rowOf (a .code .now) (a .members .now) (a .count) (a .leader) (a .fault) (length (first .clear .last .0))
-    (at .stack) (at .pc) (at .height) (at .completed) (at .inv) rows-sized bytes (turn .before .before .before .loop-test .taken) _ _ _
+    looping.again (rowsOf (a .model)) (a .code .now) (a .members .now) (a .count) (a .leader) (a .fault) (length (first .clear .last .0))
+    (at .stack) (at .pc) (at .height) (at .completed) (at .inv) (model-sized (a .model)) bytes (turn .before .before .before .loop-test .taken) _ _ _
     (rw (c .before .next .given .1) at (turn .step-at .ensures))
 
 same-length-4 : tie.Need-same-length-4 Inv-loop μ-loop
@@ -168,8 +168,8 @@ returns-4 c =
     let at = c .before .before .loop in
     let first = c .before .before .before .before .before .before in
     let a = first .before .before .before .before .before .before .args in
-    looping.walks _ _ _ _ _ _ _ _
-    (looping.ends-done rowOf (a .code .now) (a .members .now) (a .count) (a .leader) (a .fault) (a .stack .now) _
+    looping.walks (a .model) _ _ _ _ _ _ _ _
+    (looping.ends-done (rowsOf (a .model)) (a .code .now) (a .members .now) (a .count) (a .leader) (a .fault) (a .stack .now) _
     (first .clear .ensures) (at .stack) (at .pc) (at .height) (at .completed) (at .inv) (c .if1 .taken))
 
 give-up-requires-3 : tie.Need-give-up-requires-3 Inv-loop μ-loop
@@ -185,8 +185,8 @@ returns-5 c =
     let first = after .before .before .before .before .before .before in
     let a = first .before .before .before .before .before .before .args in
     rw (c .before .before .give-up3 .ensures .0)
-    (looping.walks _ _ _ _ _ _ _ _
-    (looping.ends-past rowOf (a .code .now) (a .members .now) (a .count) (a .leader) (a .fault) (a .stack .now) _
+    (looping.walks (a .model) _ _ _ _ _ _ _ _
+    (looping.ends-past (rowsOf (a .model)) (a .code .now) (a .members .now) (a .count) (a .leader) (a .fault) (a .stack .now) _
     (first .clear .ensures) (at .stack) (at .pc) (at .height) (at .completed) (at .inv)
     (after .before .loop-test .left) (after .if1 .left) _ (c .before .before .give-up3 .ensures .1)))
 
@@ -210,7 +210,7 @@ walk-block-spec =
     returns-2
     enum-told-3
     clear-requires-2
-    add-t32
+    add-t33
     same-length-3
     returns-3
     enum-known-next

@@ -1,9 +1,9 @@
--- `block::simulate_block` meets its contract. A table with no whole bucket serves any walk.
+-- `block::simulate_block_in` meets its contract. A table with no whole bucket serves any walk.
 -- Assumes nothing.
 use native.Mathlib.Omega.{arith}
 use borrow.Author.Needs.{needs}
-use Rattle.block.proofs.simulate_block.Statement.{statement}
-use Rattle.block.proofs.simulate_block.Tie as tie
+use Rattle.block.proofs.simulate_block_in.Statement.{statement}
+use Rattle.block.proofs.simulate_block_in.Tie as tie
 
 slice-aggregate-walk-block : tie.Need-slice-aggregate-walk-block
 slice-aggregate-walk-block c = search needs
@@ -26,8 +26,8 @@ same-length-2 c = search needs
 returns-2 : tie.Need-returns-2
 returns-2 c = search needs
 
-pub simulate-block-spec : {M : Type 1} → statement M
-simulate-block-spec =
+pub simulate-block-in-spec : {M : Type 1} → statement M
+simulate-block-in-spec =
     tie.close
     (tie.spec
     slice-aggregate-walk-block
