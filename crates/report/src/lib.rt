@@ -54,7 +54,8 @@ pub fn report_parts_in(
         clear(stack);
         return Report::NoMessage;
     };
-    match trace_cause(manner.model, code, members, member_count, at, depth, stack) {
+    let model = manner.model;
+    match trace_cause(model, code, members, member_count, at, depth, stack) {
         Trace::NoRoom { at: index } => Report::NoRoom { at: index },
         Trace::Traced { scan, block, cause } => {
             let instance = is_instance(flags);

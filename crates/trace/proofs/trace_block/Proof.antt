@@ -7,13 +7,13 @@ use lib.ListN.{length}
 use lib.Seq.{length-take-le}
 use borrow.Author.Needs.{needs}
 use denote.Ref.{now}
-use Rattle.walk.specs.Room.{blockWalk}
+use Rattle.walk.specs.Room.{blockWalkIn}
 use Rattle.trace.proofs.Tracing as tracing
 use Rattle.trace.proofs.trace_block.Statement.{statement}
 use Rattle.trace.proofs.trace_block.Tie as tie
 
-simulate-block-requires : tie.Need-simulate-block-requires
-simulate-block-requires c κs = search needs
+simulate-block-in-requires : tie.Need-simulate-block-in-requires
+simulate-block-in-requires c κs = search needs
 
 enum-known-at : tie.Need-enum-known-at
 enum-known-at c = search needs
@@ -28,16 +28,16 @@ enum-known-height c = search needs
 reached :
     (c : tie.After-slot-from-arg) →
     c .before .before .height .given .0 .0
-    ≤ length (c .before .before .before .before .before .before .simulate-block .last .1 .1 .1 .1 .1 .0)
+    ≤ length (c .before .before .before .before .before .before .simulate-block-in .last .1 .1 .1 .1 .1 .1 .0)
 reached c =
     let walk = c .before .before .before .before .before .before in
     let a = walk .before .before .before .before .before .args in
     let room : ℕ = length (now (a .stack)) in
-    let walked = blockWalk (now (a .code)) (now (a .members)) (a .count) (a .leader) (a .fault) room in
+    let walked = blockWalkIn (a .model) (now (a .code)) (now (a .members)) (a .count) (a .leader) (a .fault) room in
     let done =
     tracing.finished (a .scan) (a .depth) room walked _ _
-    (sym (c .before .before .height .given .1) ∙ walk .simulate-block .ensures .answers) in
-    tracing.reaches (a .scan) (a .depth) room walked _ _ done _ (walk .simulate-block .ensures .leaves)
+    (sym (c .before .before .height .given .1) ∙ walk .simulate-block-in .ensures .answers) in
+    tracing.reaches (a .scan) (a .depth) room walked _ _ done _ (walk .simulate-block-in .ensures .leaves)
 
 slot-from-requires : tie.Need-slot-from-requires
 slot-from-requires c κs = reached c
@@ -59,11 +59,11 @@ returns c =
     let walk = c .before .before .before .before .before in
     let a = walk .before .before .before .before .before .args in
     let room : ℕ = length (now (a .stack)) in
-    let walked = blockWalk (now (a .code)) (now (a .members)) (a .count) (a .leader) (a .fault) room in
+    let walked = blockWalkIn (a .model) (now (a .code)) (now (a .members)) (a .count) (a .leader) (a .fault) room in
     let told =
     tracing.lacked (a .scan) (a .depth) room walked _ _
-    (sym (c .before .at .given .1) ∙ walk .simulate-block .ensures .answers) in
-    (told .0, told .1 (walk .simulate-block .ensures .leaves))
+    (sym (c .before .at .given .1) ∙ walk .simulate-block-in .ensures .answers) in
+    (told .0, told .1 (walk .simulate-block-in .ensures .leaves))
 
 same-length-2 : tie.Need-same-length-2
 same-length-2 c = search needs
@@ -73,11 +73,11 @@ returns-2 c =
     let walk = c .before .before .before .before .before in
     let a = walk .before .before .before .before .before .args in
     let room : ℕ = length (now (a .stack)) in
-    let walked = blockWalk (now (a .code)) (now (a .members)) (a .count) (a .leader) (a .fault) room in
+    let walked = blockWalkIn (a .model) (now (a .code)) (now (a .members)) (a .count) (a .leader) (a .fault) room in
     let told =
     tracing.failing (a .scan) (a .depth) room walked _ _
-    (sym (c .before .block .given .1) ∙ walk .simulate-block .ensures .answers) in
-    (told .0, told .1 (walk .simulate-block .ensures .leaves))
+    (sym (c .before .block .given .1) ∙ walk .simulate-block-in .ensures .answers) in
+    (told .0, told .1 (walk .simulate-block-in .ensures .leaves))
 
 same-length-3 : tie.Need-same-length-3
 same-length-3 c = search needs
@@ -88,14 +88,14 @@ returns-3 c =
     let walk = looked .before .before .before .before .before .before .before in
     let a = walk .before .before .before .before .before .args in
     let room : ℕ = length (now (a .stack)) in
-    let walked = blockWalk (now (a .code)) (now (a .members)) (a .count) (a .leader) (a .fault) room in
+    let walked = blockWalkIn (a .model) (now (a .code)) (now (a .members)) (a .count) (a .leader) (a .fault) room in
     let done =
     tracing.finished (a .scan) (a .depth) room walked _ _
-    (sym (looked .before .before .before .height .given .1) ∙ walk .simulate-block .ensures .answers) in
-    let size : length (walk .simulate-block .last .1 .1 .1 .1 .1 .0) ≡ room = omega arith in (
-      tracing.traces (a .scan) (a .depth) room walked _ _ done _ (walk .simulate-block .ensures .leaves) _
+    (sym (looked .before .before .before .height .given .1) ∙ walk .simulate-block-in .ensures .answers) in
+    let size : length (walk .simulate-block-in .last .1 .1 .1 .1 .1 .1 .0) ≡ room = omega arith in (
+      tracing.traces (a .scan) (a .depth) room walked _ _ done _ (walk .simulate-block-in .ensures .leaves) _
           (looked .slot-from .ensures),
-      tracing.emptied (a .scan) (a .depth) room walked _ _ done _ (walk .simulate-block .ensures .leaves) size _
+      tracing.emptied (a .scan) (a .depth) room walked _ _ done _ (walk .simulate-block-in .ensures .leaves) size _
           (c .before .before .clear .ensures),
     )
 
@@ -103,7 +103,7 @@ pub trace-block-spec : {M : Type 1} → statement M
 trace-block-spec =
     tie.close
     (tie.spec
-    simulate-block-requires
+    simulate-block-in-requires
     enum-known-at
     enum-known-block
     enum-known-height

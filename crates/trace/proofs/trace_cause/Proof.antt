@@ -36,7 +36,7 @@ returns c =
     let told = sym (scanned .before .before .block-leader .ensures) ∙ scanned .leader .given .1 in
     let room : ℕ = length (now (a .stack)) in (
       c .before .before .trace-block .ensures .0
-          ∙ sym (ap (λ (s : Scan). tracedBy (now (a .code)) (now (a .members)) (a .count) (a .fault) (a .depth) room s) told),
+          ∙ sym (ap (λ (s : Scan). tracedBy (a .model) (now (a .code)) (now (a .members)) (a .count) (a .fault) (a .depth) room s) told),
       c .before .before .trace-block .ensures .1,
     )
 
@@ -50,7 +50,7 @@ returns-2 c =
     let a = scanned .before .before .before .before .before .before .args in
     let told = sym (scanned .before .before .block-leader .ensures) ∙ scanned .scan .given .1 in
     let room : ℕ = length (now (a .stack)) in (
-      sym (ap (λ (s : Scan). tracedBy (now (a .code)) (now (a .members)) (a .count) (a .fault) (a .depth) room s) told),
+      sym (ap (λ (s : Scan). tracedBy (a .model) (now (a .code)) (now (a .members)) (a .count) (a .fault) (a .depth) room s) told),
       c .before .before .clear .ensures,
     )
 
