@@ -1,12 +1,12 @@
--- `ffi::korsepal_walk` meets its contract. The walk is that of the parts of the case.
+-- `ffi::walk_case` meets its contract. The walk is that of the parts of the case.
 -- Assumes nothing.
 use mathlib.Core.Path.{_∙_, sym, ap, refl}
 use borrow.Author.Needs.{needs}
 use Rattle.casefile.specs.Parts.{partsOf}
 use Rattle.structs.specs.Structs.{walkNumbers}
 use Rattle.casefile.specs.Whole.{numbered}
-use Rattle.ffi.proofs.korsepal_walk.Statement.{statement}
-use Rattle.ffi.proofs.korsepal_walk.Tie as tie
+use Rattle.ffi.proofs.walk_case.Statement.{statement}
+use Rattle.ffi.proofs.walk_case.Tie as tie
 
 read-case-requires : tie.Need-read-case-requires
 read-case-requires c κs = search needs
@@ -32,8 +32,8 @@ part-at-requires c κs = search needs
 part-at-requires-2 : tie.Need-part-at-requires-2
 part-at-requires-2 c κs = search needs
 
-simulate-block-requires : tie.Need-simulate-block-requires
-simulate-block-requires c κs = search needs
+simulate-block-in-requires : tie.Need-simulate-block-in-requires
+simulate-block-in-requires c κs = search needs
 
 walk-numbers-requires : tie.Need-walk-numbers-requires
 walk-numbers-requires c κs = search needs
@@ -71,12 +71,12 @@ returns-3 c =
     let read = code .before .before in
     let told = sym (read .before .before .read-case .ensures) ∙ read .places .given .1 in (
       rw (told, ← code .part-at .ensures, ← members .part-at2 .ensures)
-          (c .walk-numbers .ensures ∙ ap walkNumbers (walk .simulate-block .ensures .answers)),
-      rw (told, ← code .part-at .ensures, ← members .part-at2 .ensures) (walk .simulate-block .ensures .leaves),
+          (c .walk-numbers .ensures ∙ ap walkNumbers (walk .simulate-block-in .ensures .answers)),
+      rw (told, ← code .part-at .ensures, ← members .part-at2 .ensures) (walk .simulate-block-in .ensures .leaves),
     )
 
-pub korsepal-walk-spec : {M : Type 1} → statement M
-korsepal-walk-spec =
+pub walk-case-spec : {M : Type 1} → statement M
+walk-case-spec =
     tie.close
     (tie.spec
     read-case-requires
@@ -87,7 +87,7 @@ korsepal-walk-spec =
     enum-known-places
     part-at-requires
     part-at-requires-2
-    simulate-block-requires
+    simulate-block-in-requires
     walk-numbers-requires
     same-length
     returns
