@@ -100,30 +100,21 @@ fn is_word(at: usize, word: &[u8]) -> bool {
     same(items::part_at(&buffer, 0, size), word)
 }
 
-// How many words behind the program's name are --full, up to the first that is not.
-fn full_words() -> usize {
-    let mut at = 1;
-    while at < os::arg_count() {
-        if !is_word(at, b"--full") {
-            return at - 1;
-        }
-        at += 1;
-    }
-    at - 1
-}
-
+// The first word is the program's name.
 fn main() {
-    let full = full_words();
-    if full + 1 < os::arg_count() {
-        io::write_all(
-            STDERR_FILENO,
-            b"npe: npe [--full] reads one case from standard input\n",
-        );
+    let words = os::arg_count();
+    if words < 2 {
+        report_input(report::document_manner());
         return;
     }
-    if full == 0 {
-        report_input(report::document_manner());
-    } else {
-        report_input(Manner { model: Model::Full });
+    if words == 2 {
+        if is_word(1, b"--full") {
+            report_input(Manner { model: Model::Full });
+            return;
+        }
     }
+    io::write_all(
+        STDERR_FILENO,
+        b"npe: npe [--full] reads one case from standard input\n",
+    );
 }
