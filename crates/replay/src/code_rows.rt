@@ -1,6 +1,7 @@
 // Rows on code: lengths, leaders and walks.
 use bytecode::Measure;
 use cell::Slot;
+use effects::Model;
 use leader::Scan;
 use notation::first_numbers;
 use text::put_at;
@@ -59,9 +60,10 @@ fn walked(answer: Walk, text: usize) -> Told {
     }
 }
 
-// Walks over a lent stack, whose cells are the text.
+// Walks in a model over a lent stack, whose cells are the text.
 fn walk_in(
     out: &mut [u8],
+    model: Model,
     code: &[u8],
     members: &[u8],
     count: usize,
@@ -69,13 +71,15 @@ fn walk_in(
     fault: usize,
     stack: &mut [u64],
 ) -> Told {
-    let answer = block::simulate_block(code, members, count, leader, fault, stack);
+    let answer = block::simulate_block_in(model, code, members, count, leader, fault, stack);
     walked(answer, put_cells(out, stack))
 }
 
 // walk | what | code | leader | fault | count of cells lent => the answer | the cells
+// walk-full | the same in the full model
 fn walk(
     out: &mut [u8],
+    model: Model,
     code: &[u8],
     members: &[u8],
     count: usize,
@@ -89,6 +93,7 @@ fn walk(
     let mut stack = [0u64; 128];
     walk_in(
         out,
+        model,
         code,
         members,
         count,
@@ -113,6 +118,7 @@ pub fn tell(
         12 => length(x, a),
         13 => leader(x, a),
         14 => told(0, d, 0, 0),
-        _ => walk(out, x, y, d, a, b, c),
+        15 => walk(out, Model::Document, x, y, d, a, b, c),
+        _ => walk(out, Model::Full, x, y, d, a, b, c),
     }
 }

@@ -18,7 +18,7 @@ use told::Told;
 ghost use Prim.Native.Nat.{_≤_};
 
 // The kinds of rows. The comments at the functions say what the fields are.
-fn kinds() -> [u8; 718] {
+fn kinds() -> [u8; 838] {
     *b"type xa |0 # |$;# |$\n\
       method xa |0 # |$;# |$\n\
       digest xab |#\n\
@@ -35,8 +35,11 @@ fn kinds() -> [u8; 718] {
       leader -xa |leader #, scan #;no length at #, scan #\n\
       members -dy |# members\n\
       walk -xabc |height #, count # |$;fails, count # |$;no room at # |$\n\
+      walk-full -xabc |height #, count # |$;fails, count # |$;no room at # |$\n\
       report xab |$\n\
-      example fg |as stored;$\n"
+      report-full xab |$\n\
+      example fg |as stored;$\n\
+      example-full fg |as stored;$\n"
 }
 
 // What the library answers to the fields of a row of a kind. A text that goes with it is in the output, which has dots at first.
@@ -53,7 +56,7 @@ fn tell(
     if kind < 12 {
         return told::tell(out, kind, x, y, a, b, c);
     }
-    if kind < 16 {
+    if kind < 17 {
         return code_rows::tell(out, kind, x, y, a, b, c, d);
     }
     report_rows::tell(out, kind, x, y, a, b)
