@@ -1,4 +1,5 @@
-/* Prints the line of document 01's example: a static method whose parameter is null. */
+/* Prints document 01's example, a static method whose parameter is null; then a load of z[i + 1] with z null, in document 01's
+ * model, which gives up at the addition, and in the full one, which names z. */
 #include <inttypes.h>
 #include <stdio.h>
 
@@ -11,10 +12,19 @@ static const uint8_t example[65] = {
     0x6e, 0x67, 0x06, 0x6c, 0x65, 0x6e, 0x67, 0x74, 0x68, 0x03, 0x28, 0x29, 0x49, 0x00,
 };
 
-int main(void) {
+/* examples/arithmetic.case */
+static const uint8_t arithmetic[33] = {
+    0x08, 0x04, 0x06, 0x2a, 0x1b, 0x04, 0x60, 0x31, 0xaf, 0x0b, 0x6e, 0x65, 0x78, 0x74, 0x3a, 0x28, 0x5b,
+    0x44, 0x49, 0x29, 0x44, 0x00, 0x02, 0x00, 0x06, 0x00, 0x01, 0x7a, 0x00, 0x06, 0x01, 0x01, 0x69,
+};
+
+/* A report in either model. */
+typedef korsepal_report_result report(const uint8_t *, size_t, uint64_t *, size_t, uint8_t *, size_t);
+
+static void print_report(report *in_model, const uint8_t *bytes, size_t count) {
     uint64_t stack[16] = {0};
     uint8_t output[256] = {0};
-    korsepal_report_result r = korsepal_report(example, sizeof example, stack, 16, output, sizeof output);
+    korsepal_report_result r = in_model(bytes, count, stack, 16, output, sizeof output);
     printf("%" PRIu32 " %" PRIu32 " %" PRIu32 " %" PRIu32, r.answer, r.kind, r.scan, r.block);
     if (r.answer == 0) {
         printf(" %.*s", (int)r.value, (const char *)output);
@@ -22,5 +32,11 @@ int main(void) {
         printf(" %" PRIu64, r.value);
     }
     printf("\n");
-    return r.answer == 0 ? 0 : 1;
+}
+
+int main(void) {
+    print_report(korsepal_report, example, sizeof example);
+    print_report(korsepal_report, arithmetic, sizeof arithmetic);
+    print_report(korsepal_report_full, arithmetic, sizeof arithmetic);
+    return 0;
 }

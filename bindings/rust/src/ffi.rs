@@ -55,8 +55,36 @@ pub struct TypesResult {
     pub count: u64,
 }
 
+/// A report, in either model.
+pub type Report = unsafe extern "C" fn(
+    case: *const u8,
+    case_count: usize,
+    stack: *mut u64,
+    stack_count: usize,
+    output: *mut u8,
+    output_count: usize,
+) -> ReportResult;
+
+/// A walk, in either model.
+pub type Walk = unsafe extern "C" fn(
+    case: *const u8,
+    case_count: usize,
+    leader: u64,
+    fault: u64,
+    stack: *mut u64,
+    stack_count: usize,
+) -> WalkResult;
+
 extern "C" {
     pub fn korsepal_report(
+        case: *const u8,
+        case_count: usize,
+        stack: *mut u64,
+        stack_count: usize,
+        output: *mut u8,
+        output_count: usize,
+    ) -> ReportResult;
+    pub fn korsepal_report_full(
         case: *const u8,
         case_count: usize,
         stack: *mut u64,
@@ -67,6 +95,14 @@ extern "C" {
     pub fn korsepal_instruction_length(code: *const u8, code_count: usize, pc: u64) -> LengthResult;
     pub fn korsepal_block_leader(code: *const u8, code_count: usize, fault: u64) -> LeaderResult;
     pub fn korsepal_walk(
+        case: *const u8,
+        case_count: usize,
+        leader: u64,
+        fault: u64,
+        stack: *mut u64,
+        stack_count: usize,
+    ) -> WalkResult;
+    pub fn korsepal_walk_full(
         case: *const u8,
         case_count: usize,
         leader: u64,

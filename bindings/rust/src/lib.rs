@@ -3,6 +3,9 @@
 //! The functions are those of the C interface over slices. Each takes any input and ends; nothing is allocated and nothing is
 //! kept, except by [`build_message`], which lays out a case first. "Document 01" is the customer's requirements.
 //!
+//! A report is asked for in a [`Manner`]: [`report_in`], [`walk_in`] and [`build_message_in`] take one, the functions without it
+//! have the default.
+//!
 //! ```
 //! use korsepal::{report, Answer};
 //!
@@ -20,13 +23,16 @@
 
 mod case;
 mod ffi;
+mod manner;
 mod message;
 
 pub use case::{put_number, Case, Kind, LocalRecord, Member, GREATEST};
-pub use message::build_message;
+pub use manner::Manner;
+pub use message::{build_message, build_message_in};
 
-/// What a report answers, by document 01's numbers 0 to 5.
+/// What a report answers: a variant for each number of document 01. Further numbers may come.
 #[derive(Clone, Copy, Debug, PartialEq, Eq)]
+#[non_exhaustive]
 pub enum Answer<'a> {
     /// 0: the message, written at the start of the output, the rest of which is unchanged. Kind 1 is the action, 2 the action
     /// and the cause; `scan` counts the instructions of the code, or those before the first that has no length, `block` those
@@ -44,18 +50,22 @@ pub enum Answer<'a> {
     TooLong,
 }
 
+/// A number that the library at hand does not answer: the crate is older than the archive that it was linked with.
+fn unknown(what: &str, number: u32) -> ! {
+    panic!("this crate knows no {what} {number}: it is older than its archive")
+}
+
 /// The report of a case. The stack is all zero afterwards; on every answer but a message the output is unchanged.
 pub fn report<'a>(case: &[u8], stack: &mut [u64], output: &'a mut [u8]) -> Answer<'a> {
+    report_in(Manner::default(), case, stack, output)
+}
+
+/// The report of a case in a manner. Otherwise as [`report`].
+pub fn report_in<'a>(manner: Manner, case: &[u8], stack: &mut [u64], output: &'a mut [u8]) -> Answer<'a> {
+    let report: ffi::Report = if manner.is_full() { ffi::korsepal_report_full } else { ffi::korsepal_report };
     // SAFETY: each pointer goes with the count of its slice, and the slices don't overlap.
     let r = unsafe {
-        ffi::korsepal_report(
-            case.as_ptr(),
-            case.len(),
-            stack.as_mut_ptr(),
-            stack.len(),
-            output.as_mut_ptr(),
-            output.len(),
-        )
+        report(case.as_ptr(), case.len(), stack.as_mut_ptr(), stack.len(), output.as_mut_ptr(), output.len())
     };
     match r.answer {
         0 => Answer::Message { text: &output[..r.value as usize], kind: r.kind, scan: r.scan, block: r.block },
@@ -63,7 +73,8 @@ pub fn report<'a>(case: &[u8], stack: &mut [u64], output: &'a mut [u8]) -> Answe
         2 => Answer::Broken { at: r.value },
         3 => Answer::NoRoom { at: r.value },
         4 => Answer::NoOutput { needed: r.value },
-        _ => Answer::TooLong,
+        5 => Answer::TooLong,
+        number => unknown("answer", number),
     }
 }
 
@@ -81,13 +92,13 @@ pub enum Measure {
 
 /// Measures the instruction at an index.
 pub fn measure(code: &[u8], pc: u64) -> Measure {
-    // SAFETY: as in `report`.
+    // SAFETY: as in `report_in`.
     let r = unsafe { ffi::korsepal_instruction_length(code.as_ptr(), code.len(), pc) };
     match r.status {
         0 => Measure::Length(r.length),
         1 => Measure::Cut,
         2 => Measure::Reserved,
-        status => unreachable!("the library has no status {status}"),
+        number => unknown("measure", number),
     }
 }
 
@@ -110,7 +121,7 @@ pub struct Leader {
 
 /// The leader of the block that holds a fault.
 pub fn block_leader(code: &[u8], fault: u64) -> Leader {
-    // SAFETY: as in `report`.
+    // SAFETY: as in `report_in`.
     let r = unsafe { ffi::korsepal_block_leader(code.as_ptr(), code.len(), fault) };
     Leader { leader: (r.found == 1).then_some(r.leader), scan: r.scan }
 }
@@ -133,16 +144,21 @@ pub enum Walk<'a> {
 /// The walk from a leader to a fault in the code of a case. A cell is 0 when opaque, else 1 + 256 * load index + local
 /// (see [`loaded`]). Where the fault is not reached the stack is all zero.
 pub fn walk<'a>(case: &[u8], leader: u64, fault: u64, stack: &'a mut [u64]) -> Walk<'a> {
-    // SAFETY: as in `report`.
-    let r = unsafe {
-        ffi::korsepal_walk(case.as_ptr(), case.len(), leader, fault, stack.as_mut_ptr(), stack.len())
-    };
+    walk_in(Manner::default(), case, leader, fault, stack)
+}
+
+/// The walk in a manner's model. Otherwise as [`walk`].
+pub fn walk_in<'a>(manner: Manner, case: &[u8], leader: u64, fault: u64, stack: &'a mut [u64]) -> Walk<'a> {
+    let walk: ffi::Walk = if manner.is_full() { ffi::korsepal_walk_full } else { ffi::korsepal_walk };
+    // SAFETY: as in `report_in`.
+    let r = unsafe { walk(case.as_ptr(), case.len(), leader, fault, stack.as_mut_ptr(), stack.len()) };
     match r.outcome {
         0 => Walk::Done { slots: &stack[..r.height as usize], count: r.count },
         1 => Walk::Failed { count: r.count },
         2 => Walk::Broken { at: r.index },
         3 => Walk::NoRoom { at: r.index },
-        _ => Walk::TooLong,
+        5 => Walk::TooLong,
+        number => unknown("outcome", number),
     }
 }
 
@@ -167,7 +183,7 @@ pub enum Name<'a> {
 
 /// The name of a local whose load stands at an index.
 pub fn local_name<'a>(case: &[u8], local: u64, load: u64, output: &'a mut [u8]) -> Name<'a> {
-    // SAFETY: as in `report`.
+    // SAFETY: as in `report_in`.
     let r = unsafe {
         ffi::korsepal_local_name(case.as_ptr(), case.len(), local, load, output.as_mut_ptr(), output.len())
     };
@@ -175,7 +191,8 @@ pub fn local_name<'a>(case: &[u8], local: u64, load: u64, output: &'a mut [u8]) 
         0 => Name::Named(&output[..r.value as usize]),
         2 => Name::Broken { at: r.value },
         4 => Name::NoOutput { needed: r.value },
-        _ => Name::TooLong,
+        5 => Name::TooLong,
+        number => unknown("answer", number),
     }
 }
 
@@ -191,7 +208,7 @@ pub enum Parameters<'a> {
 
 /// The parameters of a method's descriptor, read leniently.
 pub fn parameters<'a>(descriptor: &[u8], output: &'a mut [u8]) -> Parameters<'a> {
-    // SAFETY: as in `report`.
+    // SAFETY: as in `report_in`.
     let r = unsafe {
         ffi::korsepal_parameters(descriptor.as_ptr(), descriptor.len(), output.as_mut_ptr(), output.len())
     };
@@ -205,14 +222,14 @@ pub fn parameters<'a>(descriptor: &[u8], output: &'a mut [u8]) -> Parameters<'a>
 /// The slots of what a method returns, behind the parenthesis that ends its parameters; or `None` where these can't be read, none ends
 /// them, or nothing follows.
 pub fn return_slots(descriptor: &[u8]) -> Option<u32> {
-    // SAFETY: as in `report`.
+    // SAFETY: as in `report_in`.
     let r = unsafe { ffi::korsepal_return_slots(descriptor.as_ptr(), descriptor.len()) };
     (r.status == 0).then_some(r.slots)
 }
 
 /// The slots of a field.
 pub fn field_slots(descriptor: &[u8]) -> Option<u32> {
-    // SAFETY: as in `report`.
+    // SAFETY: as in `report_in`.
     let r = unsafe { ffi::korsepal_field_slots(descriptor.as_ptr(), descriptor.len()) };
     (r.status == 0).then_some(r.slots)
 }
@@ -220,7 +237,7 @@ pub fn field_slots(descriptor: &[u8]) -> Option<u32> {
 /// A descriptor as one type, read strictly: the count of types, whose numbers (base letter, dimensions, name's start and
 /// length) stand at the start of `numbers`; or document 01's refusal, 1 to 14, with `numbers` unchanged.
 pub fn parse_type(descriptor: &[u8], numbers: &mut [u64]) -> Result<u64, u32> {
-    // SAFETY: as in `report`.
+    // SAFETY: as in `report_in`.
     let r = unsafe {
         ffi::korsepal_parse_type(descriptor.as_ptr(), descriptor.len(), numbers.as_mut_ptr(), numbers.len())
     };
@@ -229,7 +246,7 @@ pub fn parse_type(descriptor: &[u8], numbers: &mut [u64]) -> Result<u64, u32> {
 
 /// A descriptor as a method, read strictly; the return's numbers come last. Otherwise as [`parse_type`].
 pub fn parse_method(descriptor: &[u8], numbers: &mut [u64]) -> Result<u64, u32> {
-    // SAFETY: as in `report`.
+    // SAFETY: as in `report_in`.
     let r = unsafe {
         ffi::korsepal_parse_method(descriptor.as_ptr(), descriptor.len(), numbers.as_mut_ptr(), numbers.len())
     };

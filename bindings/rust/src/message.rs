@@ -1,6 +1,6 @@
 //! `build_message` with the shape of the Rust's: it lays out a case from what the virtual machine has at hand, and reports.
 use crate::case::{Case, Kind, LocalRecord, Member};
-use crate::{report, Answer};
+use crate::{report_in, Answer, Manner};
 use std::collections::BTreeMap;
 
 /// Fields and methods are cited by the operand behind these opcodes: getstatic to invokeinterface.
@@ -59,6 +59,19 @@ pub fn build_message(
     records: &[LocalRecord],
     fault: usize,
 ) -> Option<String> {
+    build_message_in(Manner::default(), access_flags, code, name_signature, lookup, records, fault)
+}
+
+/// The message in a manner. Otherwise as [`build_message`].
+pub fn build_message_in(
+    manner: Manner,
+    access_flags: u16,
+    code: &[u8],
+    name_signature: &str,
+    lookup: impl Fn(u16, Kind) -> Option<Member>,
+    records: &[LocalRecord],
+    fault: usize,
+) -> Option<String> {
     let case = Case {
         flags: access_flags,
         fault: u16::try_from(fault).ok()?,
@@ -71,7 +84,7 @@ pub fn build_message(
     let mut stack = vec![0; 256];
     let mut output = vec![0; 512];
     loop {
-        match report(&bytes, &mut stack, &mut output) {
+        match report_in(manner, &bytes, &mut stack, &mut output) {
             Answer::Message { text, .. } => return String::from_utf8(text.to_vec()).ok(),
             Answer::NoRoom { .. } => stack = vec![0; stack.len() * 4],
             Answer::NoOutput { needed } => output = vec![0; needed as usize],

@@ -5,14 +5,83 @@ const EXAMPLE: &[u8] = b"\x08\x01\x06\x2a\xb6\x00\x01\x57\xb1\x17m:(Ljava/lang/S
                          \x01\x01\x01\x10java/lang/String\x06length\x03()I\x00";
 const MESSAGE: &[u8] = b"Cannot invoke \"String.length()\" because \"<parameter1>\" is null";
 
+/// Document 01's model, by a manner that names nothing, and the full one.
+fn manners() -> [Manner; 2] {
+    [Manner::default(), Manner::default().full()]
+}
+
 #[test]
 fn the_example() {
-    let mut stack = [7; 16];
-    let mut output = [9; 256];
-    let answer = report(EXAMPLE, &mut stack, &mut output);
-    assert_eq!(answer, Answer::Message { text: MESSAGE, kind: 2, scan: 4, block: 1 });
-    assert_eq!(stack, [0; 16]);
-    assert!(output[MESSAGE.len()..].iter().all(|&byte| byte == 9));
+    for manner in manners() {
+        let mut stack = [7; 16];
+        let mut output = [9; 256];
+        let answer = report_in(manner, EXAMPLE, &mut stack, &mut output);
+        assert_eq!(answer, Answer::Message { text: MESSAGE, kind: 2, scan: 4, block: 1 });
+        assert_eq!(stack, [0; 16]);
+        assert!(output[MESSAGE.len()..].iter().all(|&byte| byte == 9));
+    }
+}
+
+#[test]
+fn naming_nothing_is_the_default() {
+    let case = static_case(&[0x2a, 0x03, 0x04, 0x60, 0x2e], 4);
+    for room in 0..4 {
+        let (mut named, mut unnamed) = ([9; 64], [9; 64]);
+        let answer = report_in(Manner::default(), &case, &mut vec![0; room], &mut named);
+        assert_eq!(report(&case, &mut vec![0; room], &mut unnamed), answer);
+        let (mut named, mut unnamed) = (vec![7; room], vec![7; room]);
+        let walked = walk_in(Manner::default(), &case, 0, 3, &mut named);
+        assert_eq!(walk(&case, 0, 3, &mut unnamed), walked);
+    }
+}
+
+/// A static method without members or records.
+fn static_case(code: &[u8], fault: u16) -> Vec<u8> {
+    Case { flags: 8, fault, code: code.to_vec(), ..Case::default() }.bytes().expect("a case holds it")
+}
+
+/// The line that `npe` prints, with so many cells.
+fn line(manner: Manner, case: &[u8], cells: usize) -> String {
+    match report_in(manner, case, &mut vec![7; cells], &mut [9; 128]) {
+        Answer::Message { text, kind, scan, block } => {
+            format!("0 {kind} {scan} {block} {}", String::from_utf8_lossy(text))
+        }
+        Answer::NoRoom { at } => format!("3 0 0 0 {at}"),
+        other => panic!("{other:?}"),
+    }
+}
+
+/// Rows of document 02, request 1: a code, its fault, the cells lent, the line of document 01's model and that of the full one.
+#[test]
+fn both_models() {
+    let rows: [(&[u8], u16, usize, &str, &str); 8] = [
+        (&[0x2a, 0x0a, 0x04, 0x79, 0x58, 0xbe], 5, 8, "0 1 6 3 ~", "0 2 6 5 ~ because \"<local0>\" is null"),
+        (&[0x2a, 0x2b, 0x5a, 0x57, 0x57, 0xbe], 5, 8, "0 1 6 2 ~", "0 2 6 5 ~ because \"<local1>\" is null"),
+        (&[0x2a, 0x2b, 0x2c, 0x5b, 0x57, 0x57, 0x57, 0xbe], 7, 8, "0 1 8 3 ~", "0 2 8 7 ~ because \"<local2>\" is null"),
+        (
+            &[0x2a, 0x2b, 0x2c, 0x5d, 0x57, 0x57, 0x57, 0x57, 0xbe],
+            8,
+            8,
+            "0 1 9 3 ~",
+            "0 2 9 8 ~ because \"<local1>\" is null",
+        ),
+        (
+            &[0x2a, 0x2b, 0x2c, 0x2d, 0x5e, 0x57, 0x57, 0x57, 0x57, 0x57, 0xbe],
+            10,
+            8,
+            "0 1 11 4 ~",
+            "0 2 11 10 ~ because \"<local2>\" is null",
+        ),
+        (&[0x2a, 0x04, 0x04, 0xc5, 0, 1, 2, 0x57, 0xbe], 8, 8, "0 1 6 3 ~", "0 2 6 5 ~ because \"<local0>\" is null"),
+        (&[0x2a, 0x04, 0x04, 0xc5, 0, 1, 0, 0x57, 0xbe], 8, 8, "0 1 6 3 ~", "0 1 6 3 ~"),
+        (&[0x03, 0x04, 0x60, 0x2a, 0x2b, 0x2c, 0xbe], 6, 2, "0 1 7 2 ~", "3 0 0 0 4"),
+    ];
+    for (code, fault, cells, document, full) in rows {
+        for (manner, expected) in manners().into_iter().zip([document, full]) {
+            let expected = expected.replace('~', "Cannot read the array length");
+            assert_eq!(line(manner, &static_case(code, fault), cells), expected, "{code:02x?}");
+        }
+    }
 }
 
 #[test]
@@ -52,10 +121,10 @@ fn numbers_take_their_fewest_bytes() {
 
 #[test]
 fn every_prefix_is_broken() {
-    for cut in 0..EXAMPLE.len() {
+    for (cut, manner) in (0..EXAMPLE.len()).flat_map(|cut| manners().map(|manner| (cut, manner))) {
         let mut stack = [7; 4];
         let mut output = [9; 80];
-        let answer = report(&EXAMPLE[..cut], &mut stack, &mut output);
+        let answer = report_in(manner, &EXAMPLE[..cut], &mut stack, &mut output);
         assert!(matches!(answer, Answer::Broken { at } if at <= cut as u64), "{cut}: {answer:?}");
         assert_eq!((stack, output), ([0; 4], [9; 80]));
     }
@@ -71,27 +140,31 @@ fn a_byte_too_much() {
 #[test]
 fn oversized() {
     let long = vec![0; 1_048_577];
-    let mut stack = [7; 3];
-    assert_eq!(report(&long, &mut stack, &mut []), Answer::TooLong);
-    assert_eq!(stack, [0; 3]);
-    assert!(matches!(report(&long[1..], &mut [], &mut []), Answer::Broken { .. }));
-    assert_eq!(walk(&long, 0, 0, &mut []), Walk::TooLong);
+    for manner in manners() {
+        let mut stack = [7; 3];
+        assert_eq!(report_in(manner, &long, &mut stack, &mut []), Answer::TooLong);
+        assert_eq!(stack, [0; 3]);
+        assert!(matches!(report_in(manner, &long[1..], &mut [], &mut []), Answer::Broken { .. }));
+        assert_eq!(walk_in(manner, &long, 0, 0, &mut []), Walk::TooLong);
+    }
     assert_eq!(local_name(&long, 0, 0, &mut []), Name::TooLong);
 }
 
 #[test]
 fn roomless() {
-    let mut output = [9; 256];
-    assert_eq!(report(EXAMPLE, &mut [], &mut output), Answer::NoRoom { at: 0 });
-    assert_eq!(output, [9; 256]);
-    for room in 0..MESSAGE.len() {
-        let mut stack = [7; 1];
-        let needed = MESSAGE.len() as u64;
-        assert_eq!(report(EXAMPLE, &mut stack, &mut output[..room]), Answer::NoOutput { needed });
-        assert_eq!((stack, output), ([0; 1], [9; 256]));
+    for manner in manners() {
+        let mut output = [9; 256];
+        assert_eq!(report_in(manner, EXAMPLE, &mut [], &mut output), Answer::NoRoom { at: 0 });
+        assert_eq!(output, [9; 256]);
+        for room in 0..MESSAGE.len() {
+            let mut stack = [7; 1];
+            let needed = MESSAGE.len() as u64;
+            assert_eq!(report_in(manner, EXAMPLE, &mut stack, &mut output[..room]), Answer::NoOutput { needed });
+            assert_eq!((stack, output), ([0; 1], [9; 256]));
+        }
+        let exact = report_in(manner, EXAMPLE, &mut [7; 1], &mut output[..MESSAGE.len()]);
+        assert!(matches!(exact, Answer::Message { text: MESSAGE, .. }));
     }
-    let full = report(EXAMPLE, &mut [7; 1], &mut output[..MESSAGE.len()]);
-    assert!(matches!(full, Answer::Message { text: MESSAGE, .. }));
 }
 
 #[test]
@@ -139,6 +212,20 @@ fn walks() {
 }
 
 #[test]
+fn walks_through_arithmetic() {
+    // aload_0, iconst_0, iconst_1, iadd, dup_x1; then two slots of its own and the load between them.
+    let case = static_case(&[0x2a, 0x03, 0x04, 0x60, 0x5a, 0x2e], 5);
+    let mut stack = [7; 4];
+    assert_eq!(walk_in(Manner::default(), &case, 0, 5, &mut stack), Walk::Failed { count: 3 });
+    assert_eq!(stack, [0; 4]);
+    let full = Manner::default().full();
+    assert_eq!(walk_in(full, &case, 0, 5, &mut stack), Walk::Done { slots: &[0, 1, 0], count: 5 });
+    assert_eq!(stack, [0, 1, 0, 0]);
+    assert_eq!(walk_in(full, &case, 0, 5, &mut stack[..2]), Walk::NoRoom { at: 2 });
+    assert_eq!(stack, [0; 4]);
+}
+
+#[test]
 fn names() {
     let mut output = [9; 16];
     assert_eq!(local_name(EXAMPLE, 0, 0, &mut output), Name::Named(b"<parameter1>"));
@@ -181,6 +268,7 @@ fn string_member(index: u16, kind: Kind) -> Option<Member> {
     let (class, name, descriptor): (&[u8], &[u8], &[u8]) = match (index, kind) {
         (1, Kind::Method) => (b"java/lang/String", b"length", b"()I"),
         (2, Kind::Field) => (b"a/B", b"next", b"La/B;"),
+        (3, Kind::Field) => (b"a/B", b"scale", b"D"),
         _ => return None,
     };
     Some(Member { kind, class: class.to_vec(), name: name.to_vec(), descriptor: descriptor.to_vec() })
@@ -195,6 +283,19 @@ fn a_message_from_the_machine() {
     assert_eq!(message(4).as_deref(), Some("Cannot invoke \"String.length()\""));
     assert_eq!(message(0), None);
     assert_eq!(message(70_000), None);
+}
+
+#[test]
+fn a_message_in_a_manner() {
+    // aload_0, dconst_0, putfield of a double, aload_1, arraylength; the record names local 1.
+    let code = [0x2a, 0x0e, 0xb5, 0, 3, 0x2b, 0xbe, 0xac];
+    let records = [LocalRecord { start: 0, length: 8, slot: 1, name: b"rows".to_vec() }];
+    let message = |manner, fault| build_message_in(manner, 0, &code, "m:([I)I", string_member, &records, fault);
+    let [document, full] = manners();
+    assert_eq!(message(document, 2).as_deref(), Some("Cannot assign field \"scale\" because \"this\" is null"));
+    assert_eq!(message(full, 2), message(document, 2));
+    assert_eq!(message(document, 6).as_deref(), Some("Cannot read the array length"));
+    assert_eq!(message(full, 6).as_deref(), Some("Cannot read the array length because \"rows\" is null"));
 }
 
 #[test]
