@@ -1,5 +1,6 @@
 //! The tally of a run: how much was compared, which listed differences were met, and what disagreed.
 use crate::differences::{Listed, LISTED};
+use crate::model::Model;
 use std::collections::BTreeMap;
 use std::io::Write;
 use std::time::Instant;
@@ -8,15 +9,16 @@ use std::time::Instant;
 const SHOWN: usize = 5;
 
 /// The columns: those of cases, then those of descriptors.
-const COLUMNS: [&str; 13] = [
-    "inputs", "cause", "action", "none", "broken", "too long", "reports", "walks", "names", "lengths", "lists",
-    "types", "methods",
+const COLUMNS: [&str; 14] = [
+    "inputs", "cause", "action", "none", "full cause", "broken", "too long", "reports", "walks", "names", "lengths",
+    "lists", "types", "methods",
 ];
 const CASE_COLUMNS: &[Column] = &[
     Column::Inputs,
     Column::Cause,
     Column::Action,
     Column::NoMessage,
+    Column::FullCause,
     Column::Broken,
     Column::TooLong,
     Column::Reports,
@@ -30,13 +32,15 @@ const DESCRIPTOR_COLUMNS: &[Column] = &[Column::Inputs, Column::Lists, Column::T
 #[derive(Clone, Copy)]
 pub enum Column {
     Inputs,
-    /// Cases by their answer where there is room enough.
+    /// Cases by their answer in document 01's model, where there is room enough.
     Cause,
     Action,
     NoMessage,
+    /// Those that have a cause in the full model.
+    FullCause,
     Broken,
     TooLong,
-    /// Calls that were compared.
+    /// Calls that were compared, in both models.
     Reports,
     Walks,
     Names,
@@ -70,7 +74,8 @@ pub struct Book {
     cases: u64,
     descriptors: u64,
     first: Option<String>,
-    answers: BTreeMap<&'static str, u64>,
+    /// The library's answers to reports, in each model.
+    answers: BTreeMap<&'static str, [u64; 2]>,
     /// The strict readers' answers, 0 and the refusals: as a type, as a method.
     strict: [[u64; 14]; 2],
     begun: Instant,
@@ -128,9 +133,14 @@ impl Book {
         self.counts.entry(self.kind).or_default()[column as usize] += number;
     }
 
-    /// Counts an answer of the library by its name.
-    pub fn answer(&mut self, name: &'static str) {
-        *self.answers.entry(name).or_default() += 1;
+    /// What a column has counted of a kind.
+    pub fn counted(&self, kind: &str, column: Column) -> u64 {
+        self.counts.get(kind).map_or(0, |counts| counts[column as usize])
+    }
+
+    /// Counts an answer of the library in a model by its name.
+    pub fn answer(&mut self, model: Model, name: &'static str) {
+        self.answers.entry(name).or_default()[model as usize] += 1;
     }
 
     /// Counts an answer of a strict reader: 0 or a refusal.
@@ -241,8 +251,9 @@ impl Book {
 
     /// The library's answers to reports, and the strict readers' answers.
     fn print_answers(&self) {
-        for (name, count) in &self.answers {
-            println!("{name:<28} {count:>9}");
+        println!("{:<28} {:>13} {:>9}", "the library's report", "document 01's", "full");
+        for (name, [document, full]) in &self.answers {
+            println!("{name:<28} {document:>13} {full:>9}");
         }
         println!();
         if self.descriptors > 0 {
@@ -262,7 +273,7 @@ impl Book {
             println!("- {}", one.what);
             println!("  input    {}", hex(&one.input));
             println!("  library  {}", one.ours);
-            println!("  the Rust {}", one.theirs);
+            println!("  expected {}", one.theirs);
         }
     }
 }

@@ -2,9 +2,10 @@
 use crate::book::{Book, Column};
 use crate::differences::{length, measured, scan, table, Listed, Table};
 use crate::layout::{self, Parts, Record, Wrong};
+use crate::model::{Model, MODELS};
 use crate::random::Random;
 use crate::room::Lender;
-use crate::rule::{Facts, Landings, Walked};
+use crate::rule::{Facts, Kept, Walked};
 use crate::sides::{quietly, Build, Checked, Holding, Wrapped};
 use korsepal::{Answer, Kind, Leader, LocalRecord, Member, Name, Walk};
 
@@ -38,13 +39,13 @@ pub struct Run {
     pub book: Book,
     pub lender: Lender,
     pub random: Random,
-    /// The landings of the method at hand.
-    landings: Option<Landings>,
+    /// The walks of the method at hand.
+    kept: Kept,
 }
 
 impl Run {
     pub fn new(seed: u64) -> Self {
-        Run { book: Book::new(), lender: Lender::default(), random: Random::new(seed), landings: None }
+        Run { book: Book::new(), lender: Lender::default(), random: Random::new(seed), kept: Kept::default() }
     }
 
     /// Compares the two sides on the bytes of a case.
@@ -60,7 +61,7 @@ impl Run {
         match layout::read(bytes) {
             Ok(parts) if first => self.whole_case(bytes, &parts),
             Ok(parts) => {
-                let facts = Facts::with(&parts, &mut self.landings);
+                let facts = Facts::with(&parts, &mut self.kept);
                 if parts.code.len() < LONG_CODE || self.random.once_in(WHOLE_FAULTS) {
                     self.fault(bytes, &parts, &facts);
                 } else {
@@ -82,55 +83,71 @@ impl Run {
         self.book.count(if wrong == Wrong::TooLong { Column::TooLong } else { Column::Broken });
         let (room, output) = (self.random.below(6), self.random.below(40));
         let (leader, fault) = (self.random.below(6) as u64, self.random.below(9) as u64);
-        self.lender.report(&mut self.book, bytes, room, output, answer);
-        self.lender.walk(&mut self.book, bytes, leader, fault, room, walk);
+        for model in MODELS {
+            self.lender.report(&mut self.book, model, bytes, room, output, answer);
+            self.lender.walk(&mut self.book, model, bytes, (leader, fault), room, walk);
+            self.book.count(Column::Reports);
+        }
         self.lender.name(&mut self.book, bytes, leader, fault, output, name);
-        self.book.count(Column::Reports);
     }
 
     fn whole_case(&mut self, bytes: &[u8], parts: &Parts) {
-        self.landings = None;
+        self.kept = Kept::default();
         self.fault(bytes, parts, &Facts::of(parts));
         self.lengths(bytes, &parts.code);
     }
 
     /// Everything but the lengths.
     fn fault(&mut self, bytes: &[u8], parts: &Parts, facts: &Facts) {
-        let message_panics = self.reports(bytes, parts, facts);
+        let message_panics = self.checked_message(bytes, parts, facts);
         let leader_panics = self.leaders(bytes, parts, facts);
         self.count_facts(facts, message_panics || leader_panics);
-        self.walks(bytes, parts, facts);
+        for model in MODELS {
+            self.reports(bytes, facts, model);
+            self.own_walk(bytes, parts, facts, model);
+            self.built_message(bytes, parts, facts, model);
+        }
+        self.other_walk(bytes, parts, facts);
+        self.same_cause(bytes, facts);
         self.names(bytes, parts, facts);
-        self.built_message(bytes, parts, facts);
     }
 
-    /// The Rust crate's `build_message`, which lays out a case from what a virtual machine has at hand. Its texts are strings.
-    fn built_message(&mut self, bytes: &[u8], parts: &Parts, facts: &Facts) {
+    /// The Rust crate's `build_message_in`, which lays out a case from what a virtual machine has at hand. Its texts are strings.
+    fn built_message(&mut self, bytes: &[u8], parts: &Parts, facts: &Facts, model: Model) {
         if facts.holding == Holding::AsItIs {
             let signature = std::str::from_utf8(&parts.signature).expect("it was found to be UTF-8");
             let records: Vec<LocalRecord> = parts.records.iter().map(local_record).collect();
             let lookup = |index: u16, kind: Kind| member(parts, index, kind);
-            let fault = usize::from(parts.fault);
-            let ours = korsepal::build_message(parts.flags, &parts.code, signature, lookup, &records, fault);
-            self.book.expect(bytes, "message of build_message", ours.map(String::into_bytes), facts.message.clone());
+            let (manner, fault) = (model.manner(), usize::from(parts.fault));
+            let ours =
+                korsepal::build_message_in(manner, parts.flags, &parts.code, signature, lookup, &records, fault);
+            let expected = facts.said(model).message.clone();
+            self.book.expect(bytes, &model.named("build_message"), ours.map(String::into_bytes), expected);
         }
     }
 
-    /// The report with enough room, and the walk of the case.
+    /// In both models the report with enough room, and the walk of the case.
     fn report_and_walk(&mut self, bytes: &[u8], parts: &Parts, facts: &Facts) {
         let panics = self.checked_message(bytes, parts, facts);
         self.count_facts(facts, panics);
-        self.report(bytes, facts, facts.highest(), facts.message.as_ref().map_or(8, Vec::len));
-        self.own_walk(bytes, parts, facts);
+        for model in MODELS {
+            let said = facts.said(model);
+            self.report(bytes, facts, model, said.highest(), said.length());
+            self.own_walk(bytes, parts, facts, model);
+        }
+        self.same_cause(bytes, facts);
     }
 
     /// Counts the case by its answer, and the listed differences that hold of it.
     fn count_facts(&mut self, facts: &Facts, checked_panics: bool) {
-        self.book.count(match facts.answer(usize::MAX, usize::MAX) {
+        self.book.count(match facts.answer(Model::Document, usize::MAX, usize::MAX) {
             Answer::Message { kind: 2, .. } => Column::Cause,
             Answer::Message { .. } => Column::Action,
             _ => Column::NoMessage,
         });
+        if facts.has_cause(Model::Full) {
+            self.book.count(Column::FullCause);
+        }
         // Where D6 or D7 holds beside others, another message is counted to it, and a panic to them.
         let differs = facts.wrapped_differs && facts.own_rules();
         let listed = [
@@ -150,29 +167,36 @@ impl Run {
         }
     }
 
-    /// The report with enough room, with some, and on a share of the cases with every room from none to enough. Answers whether
-    /// the checked build panics at the message.
-    fn reports(&mut self, bytes: &[u8], parts: &Parts, facts: &Facts) -> bool {
-        let panics = self.checked_message(bytes, parts, facts);
-        let enough = facts.highest();
-        let length = facts.message.as_ref().map_or(8, Vec::len);
+    /// The report in a model with enough room, with some, and on a share of the cases with every room from none to enough.
+    fn reports(&mut self, bytes: &[u8], facts: &Facts, model: Model) {
+        let (enough, length) = (facts.said(model).highest(), facts.said(model).length());
         let (more, longer) = (self.random.below(3), self.random.below(5));
-        self.report(bytes, facts, enough + more, length + longer);
+        self.report(bytes, facts, model, enough + more, length + longer);
         if self.random.once_in(3) {
             let (room, output) = (self.random.below(enough + 2), self.random.below(length + 2));
-            self.report(bytes, facts, room, output);
+            self.report(bytes, facts, model, room, output);
         }
         if self.random.once_in(ALL_ROOMS) {
             for room in 0..=enough.min(40) + 1 {
                 for output in [0, 1, length / 2, length.saturating_sub(1), length, length + 1] {
-                    self.report(bytes, facts, room, output);
+                    self.report(bytes, facts, model, room, output);
                 }
             }
         }
         if self.random.once_in(ALL_OUTPUTS) && length < 1_000 {
-            (0..=length + 1).for_each(|output| self.report(bytes, facts, enough, output));
+            (0..=length + 1).for_each(|output| self.report(bytes, facts, model, enough, output));
         }
-        panics
+    }
+
+    /// The cause of document 01's model is that of the full one, if there is one and the full one's room is enough.
+    fn same_cause(&mut self, bytes: &[u8], facts: &Facts) {
+        if facts.has_cause(Model::Document) {
+            let rooms = MODELS.map(|model| facts.said(model).highest() + self.random.below(3));
+            let output = facts.said(Model::Document).length();
+            self.lender.same_cause(&mut self.book, bytes, rooms, output);
+            let less = self.random.below(rooms[1]);
+            self.lender.same_cause(&mut self.book, bytes, [rooms[0], less], output);
+        }
     }
 
     /// The checked build's message is the expected one; answers whether it panics, which must be listed.
@@ -184,8 +208,8 @@ impl Run {
         panics
     }
 
-    fn report(&mut self, bytes: &[u8], facts: &Facts, room: usize, output: usize) {
-        self.lender.report(&mut self.book, bytes, room, output, facts.answer(room, output));
+    fn report(&mut self, bytes: &[u8], facts: &Facts, model: Model, room: usize, output: usize) {
+        self.lender.report(&mut self.book, model, bytes, room, output, facts.answer(model, room, output));
         self.book.count(Column::Reports);
     }
 
@@ -221,9 +245,18 @@ impl Run {
         panics
     }
 
-    /// The walk alone: the case's own, and one from elsewhere.
-    fn walks(&mut self, bytes: &[u8], parts: &Parts, facts: &Facts) {
-        self.own_walk(bytes, parts, facts);
+    /// The walk alone, from the case's leader to its fault.
+    fn own_walk(&mut self, bytes: &[u8], parts: &Parts, facts: &Facts, model: Model) {
+        if let (Some(leader), Some(walked)) = (facts.leader, &facts.said(model).walked) {
+            self.walk(bytes, model, leader, usize::from(parts.fault), walked);
+            if model == Model::Document {
+                self.checked_walk(bytes, parts, facts, leader, usize::from(parts.fault));
+            }
+        }
+    }
+
+    /// The walk alone, from elsewhere to anywhere, on half of the cases.
+    fn other_walk(&mut self, bytes: &[u8], parts: &Parts, facts: &Facts) {
         if self.random.once_in(2) {
             let length = parts.code.len();
             let leader = self.random.below(length + 2);
@@ -231,21 +264,22 @@ impl Run {
                 0 if length < 1_000 => self.random.below(length + 8),
                 _ => leader + self.random.below(24),
             };
-            let walked = Walked::new(facts.walker(), &parts.code, &mut Landings::new(leader), fault);
-            self.walk(bytes, parts, facts, leader, fault, &walked);
+            for model in MODELS {
+                self.walk(bytes, model, leader, fault, &facts.walk(model, parts, leader, fault));
+            }
+            self.checked_walk(bytes, parts, facts, leader, fault);
         }
     }
 
-    fn own_walk(&mut self, bytes: &[u8], parts: &Parts, facts: &Facts) {
-        if let (Some(leader), Some(walked)) = (facts.leader, &facts.walked) {
-            self.walk(bytes, parts, facts, leader, usize::from(parts.fault), walked);
-        }
-    }
-
-    fn walk(&mut self, bytes: &[u8], parts: &Parts, facts: &Facts, leader: usize, fault: usize, walked: &Walked) {
+    /// Both builds of the Rust walk alike.
+    fn checked_walk(&mut self, bytes: &[u8], parts: &Parts, facts: &Facts, leader: usize, fault: usize) {
         let wrapped = facts.wrapped.walk(&parts.code, leader, fault);
         let checked = quietly(|| facts.checked.walk(&parts.code, leader, fault));
         self.book.expect_checked(bytes, "walk of the checked build", checked, wrapped, false);
+    }
+
+    /// A walk in a model with enough room, with none, or with every room from none to enough.
+    fn walk(&mut self, bytes: &[u8], model: Model, leader: usize, fault: usize, walked: &Walked) {
         let enough = walked.highest();
         let rooms = match self.random.below(ALL_ROOMS) {
             0 => 0..=enough.min(40) + 1,
@@ -253,7 +287,8 @@ impl Run {
             _ => enough..=enough,
         };
         for room in rooms {
-            self.lender.walk(&mut self.book, bytes, leader as u64, fault as u64, room, walked.answer(room));
+            let places = (leader as u64, fault as u64);
+            self.lender.walk(&mut self.book, model, bytes, places, room, walked.answer(room));
             self.book.count(Column::Walks);
         }
     }

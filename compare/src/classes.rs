@@ -1,4 +1,5 @@
 //! Real class files: every dereferencing instruction of every method becomes a case, and some methods do with one byte damaged.
+use crate::book::{Book, Column};
 use crate::cases::Run;
 use crate::classfile::{self, ClassFile, Members, Method};
 use crate::layout;
@@ -6,6 +7,9 @@ use crate::make::damaged_everywhere;
 use crate::sides::{Build, Wrapped};
 use std::fs;
 use std::path::{Path, PathBuf};
+
+/// The kind of the cases that are as the class files have them.
+const KIND: &str = "class files";
 
 /// Of the methods with no more bytes of code than this, one in so many is compared with each of its bytes damaged.
 const DAMAGED_CODE: usize = 300;
@@ -63,6 +67,22 @@ pub fn compare(run: &mut Run, folder: &Path) -> std::io::Result<()> {
     Ok(())
 }
 
+/// Prints how many of the faults have a cause in each model.
+pub fn print_shares(book: &Book) {
+    let counted = |column| book.counted(KIND, column);
+    let (faults, none) = (counted(Column::Inputs), counted(Column::NoMessage));
+    let share = |causes: u64, of: u64| 100.0 * causes as f64 / of.max(1) as f64;
+    println!("{faults} faults of class files, {} with a message; of these have a cause", faults - none);
+    for (model, column) in [("document 01's model", Column::Cause), ("the full model", Column::FullCause)] {
+        let causes = counted(column);
+        println!(
+            "    in {model:<19} {causes:>9}, {:.1} % of the faults, {:.1} % of the messages",
+            share(causes, faults),
+            share(causes, faults - none)
+        );
+    }
+}
+
 fn compare_method(run: &mut Run, seen: &mut Seen, class: &ClassFile, method: &Method) {
     seen.methods += 1;
     let starts = starts(&method.code);
@@ -75,7 +95,7 @@ fn compare_method(run: &mut Run, seen: &mut Seen, class: &ClassFile, method: &Me
         // The first fault has the whole pool's members, the others those that the code cites.
         let members = if place == 0 { Members::Whole } else { Members::Cited };
         if let Some(bytes) = classfile::case_at(class, method, fault, members).bytes() {
-            run.book.case("class files");
+            run.book.case(KIND);
             run.fault_of_method(&bytes, place == 0);
             if place == 0 && method.code.len() <= DAMAGED_CODE && run.random.once_in(DAMAGED_METHODS) {
                 compare_damaged(run, &bytes);

@@ -2,6 +2,7 @@
 //! for it, so that the rest of the input is compared all the same.
 use crate::layout::Parts;
 use crate::sides::{Build, Holding, Wrapped};
+use crate::slots::{field_type, parameters};
 use korsepal::Measure;
 use std::borrow::Cow;
 
@@ -158,33 +159,10 @@ pub fn scan(code: &[u8]) -> Scan<'_> {
     scan
 }
 
-/// The place behind a type, and its slots.
-fn field_type(text: &[u8], at: usize) -> Option<(usize, usize)> {
-    let base = at + text[at..].iter().take_while(|&&byte| byte == b'[').count();
-    let next = match text.get(base)? {
-        b'B' | b'C' | b'D' | b'F' | b'I' | b'J' | b'S' | b'Z' => base + 1,
-        b'L' => base + 1 + text[base..].iter().position(|&byte| byte == b';')?,
-        _ => return None,
-    };
-    let wide = base == at && matches!(text[base], b'J' | b'D');
-    Some((next, if wide { 2 } else { 1 }))
-}
-
-/// Where the parameters of a descriptor end: at a `)` or with the text; `None` where they can't be read.
-fn end_of_parameters(descriptor: &[u8]) -> Option<usize> {
-    if descriptor.first() != Some(&b'(') {
-        return None;
-    }
-    let mut at = 1;
-    while at < descriptor.len() && descriptor[at] != b')' {
-        (at, _) = field_type(descriptor, at)?;
-    }
-    Some(at)
-}
-
 /// Where the parameters of a descriptor end, if a name of them has a `)`.
 fn end_behind_a_parenthesis(descriptor: &[u8]) -> Option<usize> {
-    end_of_parameters(descriptor).filter(|&end| descriptor[..end].contains(&b')'))
+    let (end, _) = parameters(descriptor)?;
+    descriptor[..end].contains(&b')').then_some(end)
 }
 
 /// The descriptor with another byte in the place of each `)` in its parameters' names: its first `)` ends them.
@@ -197,7 +175,7 @@ fn with_plain_names(descriptor: &[u8]) -> Cow<'_, [u8]> {
 
 /// Whether a descriptor has a `)`, and the first is not the one that ends its parameters.
 pub fn first_parenthesis_misleads(descriptor: &[u8]) -> bool {
-    let unread = end_of_parameters(descriptor).is_none();
+    let unread = parameters(descriptor).is_none();
     descriptor.contains(&b')') && (unread || end_behind_a_parenthesis(descriptor).is_some())
 }
 

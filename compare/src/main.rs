@@ -6,17 +6,21 @@ mod classfile;
 mod damage;
 mod descriptors;
 mod differences;
+mod full;
 mod layout;
 mod make;
+mod model;
 mod random;
 mod room;
 mod rows;
 mod rule;
 mod sample;
 mod sides;
+mod slots;
 
 use cases::Run;
 use random::Random;
+use std::io::Write;
 use std::path::Path;
 
 /// What the files of rows open with.
@@ -164,6 +168,30 @@ fn end(run: &Run) {
     }
 }
 
+/// Writes the case of a fault in a method of a class file, the first of that name, with the members that its code cites.
+fn write_case(path: &str, method: &str, fault: usize) {
+    let class = classfile::read(&or_end(std::fs::read(path), path));
+    let class = or_end(class.map_err(|wrong| std::io::Error::new(std::io::ErrorKind::InvalidData, wrong)), path);
+    let bytes = class.methods.iter().find(|found| found.name == method.as_bytes()).and_then(|found| {
+        classfile::case_at(&class, found, fault, classfile::Members::Cited).bytes()
+    });
+    let bytes = or_end(bytes.ok_or(std::io::ErrorKind::NotFound.into()), method);
+    or_end(std::io::stdout().write_all(&bytes), "standard output");
+}
+
+/// Prints the lines of the case in a file by the rules, in document 01's model and in the full one, with the spaces of `npe`.
+fn print_lines(path: &str) {
+    let bytes = or_end(std::fs::read(path), path);
+    for model in model::MODELS {
+        let line = match layout::read(&bytes) {
+            Ok(parts) => sample::line(rule::Facts::of(&parts).answer(model, 4_096, 16_384)),
+            Err(layout::Wrong::At(at)) => sample::line(korsepal::Answer::Broken { at: at as u64 }),
+            Err(layout::Wrong::TooLong) => sample::line(korsepal::Answer::TooLong),
+        };
+        or_end(std::io::stdout().write_all(&[&line[..], b"\n"].concat()), "standard output");
+    }
+}
+
 /// The rows of the stored sample, answered anew.
 fn renewed_sample(folder: &str) -> Vec<sample::Row> {
     let path = format!("{folder}/sample");
@@ -200,15 +228,21 @@ fn main() {
         Some("classes") => {
             let mut run = Run::new(1);
             or_end(classes::compare(&mut run, Path::new(path())), path());
+            classes::print_shares(&run.book);
             end(&run);
         }
         Some("starts") => arguments[1..].iter().for_each(|file| or_end(classes::print_starts(Path::new(file)), file)),
+        Some("case") => write_case(path(), arguments.get(2).unwrap_or_else(|| usage()), number(3, 0) as usize),
+        Some("lines") => print_lines(path()),
         Some("sample") => write_rows(path(), arguments.get(2).map(|_| number(2, 0))),
         _ => usage(),
     }
 }
 
 fn usage() -> ! {
-    eprintln!("compare: run [SEED] [COUNT] | listed | classes FOLDER | starts FILE.. | sample FOLDER [SEED]");
+    eprintln!(
+        "compare: run [SEED] [COUNT] | listed | classes FOLDER | starts FILE.. | case FILE METHOD FAULT | lines CASE | \
+         sample FOLDER [SEED]"
+    );
     std::process::exit(2);
 }

@@ -2,18 +2,21 @@
 use crate::damage::damage;
 use crate::descriptors::{any_method, any_type, good_method, parenthesise};
 use crate::differences::measured;
+use crate::full;
 use crate::layout::{lay_out, Member, Parts, Record};
+use crate::model::Model;
 use crate::random::Random;
 use crate::sides::{Build, Holding, Wrapped};
 use korsepal::Measure;
 
 /// The kinds of cases, and how many of twenty are of each.
-pub const KINDS: [(&str, usize, fn(&mut Random) -> Vec<u8>); 5] = [
-    ("structured", 9, structured),
+pub const KINDS: [(&str, usize, fn(&mut Random) -> Vec<u8>); 6] = [
+    ("structured", 6, structured),
+    ("solver code", 5, solver_code),
     ("damaged code", 3, damaged_code),
-    ("damaged layout", 3, damaged_layout),
+    ("damaged layout", 2, damaged_layout),
     ("boundaries", 3, boundary),
-    ("random bytes", 2, random_bytes),
+    ("random bytes", 1, random_bytes),
 ];
 
 const CLASSES: [&[u8]; 12] = [
@@ -44,31 +47,9 @@ const NAMES: [&[u8]; 10] = [
     "\u{1f600}\u{fc}".as_bytes(),
 ];
 
-/// Operand bytes, slots taken and slots put of an instruction of the walk that cites no member.
-fn effect(opcode: u8) -> Option<(usize, usize, usize)> {
-    Some(match opcode {
-        0 => (0, 0, 0),
-        1..=8 | 11..=13 | 26..=29 | 34..=37 | 42..=45 => (0, 0, 1),
-        9 | 10 | 14 | 15 | 30..=33 | 38..=41 => (0, 0, 2),
-        16 | 18 | 21 | 23 | 25 => (1, 0, 1),
-        22 | 24 => (1, 0, 2),
-        17 | 19 | 187 => (2, 0, 1),
-        20 => (2, 0, 2),
-        46 | 48 | 50..=53 => (0, 2, 1),
-        47 | 49 => (0, 2, 2),
-        54 | 56 | 58 => (1, 1, 0),
-        55 | 57 => (1, 2, 0),
-        59..=62 | 67..=70 | 75..=78 | 87 => (0, 1, 0),
-        63..=66 | 71..=74 | 88 => (0, 2, 0),
-        89 => (0, 1, 2),
-        92 => (0, 2, 4),
-        95 => (0, 2, 2),
-        132 | 192 => (2, 0, 0),
-        188 => (1, 1, 1),
-        189 | 193 => (2, 1, 1),
-        190 => (0, 1, 1),
-        _ => return None,
-    })
+/// Whether document 01's model walks an opcode that cites no member.
+fn in_document(opcode: u8) -> bool {
+    matches!(opcode, 0..=78 | 87..=89 | 92 | 95 | 132 | 187..=190 | 192 | 193)
 }
 
 /// Operand bytes of any instruction but the switches and `wide`.
@@ -82,8 +63,9 @@ fn operands(opcode: u8) -> usize {
     }
 }
 
-/// A code in the making.
+/// A code in the making, of what a model walks.
 struct Maker<'r> {
+    model: Model,
     random: &'r mut Random,
     members: Vec<Member>,
     code: Vec<u8>,
@@ -109,32 +91,65 @@ impl Maker<'_> {
         }
     }
 
-    /// An instruction of the walk, for the most part one that finds what it takes.
+    /// Slots taken and put by an opcode that the model walks and that cites no member.
+    fn effect(&self, opcode: u8) -> Option<(usize, usize)> {
+        let walked = self.model == Model::Full || in_document(opcode);
+        walked.then(|| full::slots(opcode)).flatten()
+    }
+
+    /// An instruction of the walk.
     fn walked(&mut self) {
+        self.walked_above(0);
+    }
+
+    /// An instruction of the walk, for the most part one that finds what it takes above so many slots.
+    fn walked_above(&mut self, floor: usize) {
         if self.random.once_in(6) && !self.members.is_empty() {
-            return self.cite();
+            return self.cite(floor);
+        }
+        if self.model == Model::Full && self.random.once_in(16) {
+            return self.multianewarray(floor);
         }
         loop {
-            let opcode = match self.random.below(3) {
-                0 => [25, 42, 43, 44, 45, 89, 92, 95, 192][self.random.below(9)],
-                _ => self.random.below(194) as u8,
+            let opcode = match self.random.below(6) {
+                0 | 1 => [25, 42, 43, 44, 45, 89, 92, 95, 192][self.random.below(9)],
+                2 => [90, 91, 93, 94][self.random.below(4)],
+                _ => self.random.below(196) as u8,
             };
-            let Some((operands, taken, put)) = effect(opcode) else { continue };
-            if taken > self.height && !self.random.once_in(40) {
-                continue;
+            let Some((taken, put)) = self.effect(opcode) else { continue };
+            if floor + taken > self.height {
+                match self.random.below(80) {
+                    0 => {}
+                    1..=30 if self.model == Model::Full => self.fill(floor + taken),
+                    _ => continue,
+                }
             }
             self.start(opcode);
-            self.operands(operands);
+            self.operands(operands(opcode));
             self.height = self.height.saturating_sub(taken) + put;
             return;
         }
     }
 
-    /// The index of a member, mostly one of the table and of the kind, sometimes of the other kind.
+    /// An array of some dimensions, mostly of as many as there are slots for, seldom of none.
+    fn multianewarray(&mut self, floor: usize) {
+        let dimensions = if self.random.once_in(16) { 0 } else { self.random.between(1, 3) };
+        if !self.random.once_in(16) {
+            self.fill(floor + dimensions);
+        }
+        self.start(197);
+        self.operands(2);
+        self.code.push(dimensions as u8);
+        self.height = self.height.saturating_sub(dimensions) + 1;
+    }
+
+    /// The index of a member, mostly one of the table and of the kind, sometimes of the other kind. Blocks of the full model are longer,
+    /// so that less may go wrong in each of their instructions.
     fn cited(&mut self, is_method: bool) -> (u16, Option<Member>) {
-        let kind = is_method != self.random.once_in(16);
+        let times = if self.model == Model::Full { 4 } else { 1 };
+        let kind = is_method != self.random.once_in(16 * times);
         let of_kind: Vec<&Member> = self.members.iter().filter(|member| member.is_method == kind).collect();
-        if of_kind.is_empty() || self.random.once_in(24) {
+        if of_kind.is_empty() || self.random.once_in(24 * times) {
             return (self.random.number(), None);
         }
         let member = of_kind[self.random.below(of_kind.len())].clone();
@@ -153,12 +168,19 @@ impl Maker<'_> {
     }
 
     /// An instruction of the walk that cites a member, behind what it takes.
-    fn cite(&mut self) {
-        let opcode = [178, 180, 182, 183, 184, 185][self.random.below(6)];
+    fn cite(&mut self, floor: usize) {
+        let opcodes: &[u8] = match self.model {
+            Model::Document => &[178, 180, 182, 183, 184, 185],
+            Model::Full => &[178, 179, 179, 180, 181, 181, 182, 183, 184, 185],
+        };
+        let opcode = opcodes[self.random.below(opcodes.len())];
         let (index, member) = self.cited(opcode >= 182);
-        let (arguments, given) = Self::slots(member.as_ref());
-        let taken = arguments + usize::from(opcode != 178 && opcode != 184);
-        self.fill(taken);
+        let (mut taken, mut given) = Self::slots(member.as_ref());
+        if opcode == 179 || opcode == 181 {
+            (taken, given) = (given, 0);
+        }
+        taken += usize::from(!matches!(opcode, 178 | 179 | 184));
+        self.fill(floor + taken);
         self.start(opcode);
         self.code.extend(index.to_be_bytes());
         if opcode == 185 {
@@ -176,9 +198,9 @@ impl Maker<'_> {
 
     fn push(&mut self) {
         let opcode = [1, 5, 9, 16, 20, 25, 26, 42, 43][self.random.below(9)];
-        let (operands, _, put) = effect(opcode).expect("it is walked");
+        let (_, put) = self.effect(opcode).expect("it is walked");
         self.start(opcode);
-        self.operands(operands);
+        self.operands(operands(opcode));
         self.height += put;
     }
 
@@ -196,10 +218,25 @@ impl Maker<'_> {
         }
     }
 
-    /// Slots above the load: as many as the depth asks, sometimes another number.
+    /// Slots above the load: as many as the depth asks, sometimes another number. In the full model they are worked out there.
     fn above(&mut self, depth: usize) {
         let wanted = if self.random.once_in(12) { depth + self.random.below(3) } else { depth };
-        for _ in 0..wanted.min(300) {
+        let floor = self.height;
+        if self.model == Model::Full {
+            (0..self.random.below(14)).for_each(|_| self.walked_above(floor));
+        }
+        self.level(floor + wanted.min(300));
+    }
+
+    /// Takes and pushes single slots until there are so many.
+    fn level(&mut self, wanted: usize) {
+        while self.height > wanted {
+            let opcode = if self.model == Model::Full { [87, 54, 96, 194][self.random.below(4)] } else { 87 };
+            self.start(opcode);
+            self.operands(operands(opcode));
+            self.height -= 1;
+        }
+        while self.height < wanted {
             let opcode = [1, 4, 42, 43, 26, 89][self.random.below(6)];
             self.start(opcode);
             self.height += 1;
@@ -236,9 +273,9 @@ impl Maker<'_> {
         at
     }
 
-    /// Any instruction with its operands.
+    /// Any instruction with its operands, seldom a reserved byte.
     fn any(&mut self) {
-        let opcode = self.random.byte();
+        let opcode = if self.random.once_in(8) { self.random.byte() } else { self.random.below(202) as u8 };
         match opcode {
             170 | 171 => self.switch(opcode == 170),
             196 => {
@@ -378,15 +415,35 @@ fn flags(random: &mut Random) -> u16 {
     }
 }
 
-/// The parts of a case with structure: code ahead, a block that ends in a dereference, code behind.
+/// Fields and methods of a solver, behind some others: values of one slot and of two.
+fn solver_members(random: &mut Random) -> Vec<Member> {
+    let mut members = members(random);
+    let mut index = members.last().map_or(0, |member| member.index);
+    for descriptor in ["I", "J", "D", "F", "[D", "(D)D", "(DD)V", "(JI)J", "([DI)La/B;"] {
+        index += random.between(1, 3) as u16;
+        let is_method = descriptor.starts_with('(');
+        let name = if is_method { b"step".to_vec() } else { b"sum".to_vec() };
+        members.push(Member { index, is_method, class: b"a/Fit".to_vec(), name, descriptor: descriptor.into() });
+    }
+    members
+}
+
+/// The parts of a case with structure, of what one of the models walks.
 fn parts(random: &mut Random) -> Parts {
-    let members = members(random);
+    let model = if random.once_in(3) { Model::Full } else { Model::Document };
+    parts_in(random, model)
+}
+
+/// The parts of a case with structure: code ahead, a block of what a model walks that ends in a dereference, code behind.
+fn parts_in(random: &mut Random, model: Model) -> Parts {
+    let members = if model == Model::Full { solver_members(random) } else { members(random) };
     let (ahead, walked, behind) = match random.below(4) {
         0 => (0, random.below(4), 1),
         1 => (0, random.below(12), random.below(8)),
         _ => (random.below(6), random.below(8), random.below(6)),
     };
-    let mut maker = Maker { random, members, code: Vec::new(), starts: Vec::new(), branches: Vec::new(), height: 0 };
+    let (code, starts, branches) = (Vec::new(), Vec::new(), Vec::new());
+    let mut maker = Maker { model, random, members, code, starts, branches, height: 0 };
     maker.around(ahead);
     if ahead > 0 && !maker.random.once_in(4) {
         let opcode = [167, 153, 198, 200][maker.random.below(4)];
@@ -416,7 +473,11 @@ fn parts(random: &mut Random) -> Parts {
 }
 
 fn structured(random: &mut Random) -> Vec<u8> {
-    lay_out(&parts(random))
+    lay_out(&parts_in(random, Model::Document))
+}
+
+fn solver_code(random: &mut Random) -> Vec<u8> {
+    lay_out(&parts_in(random, Model::Full))
 }
 
 fn damaged_code(random: &mut Random) -> Vec<u8> {
@@ -426,7 +487,7 @@ fn damaged_code(random: &mut Random) -> Vec<u8> {
 }
 
 fn damaged_layout(random: &mut Random) -> Vec<u8> {
-    let mut bytes = structured(random);
+    let mut bytes = lay_out(&parts(random));
     damage(random, &mut bytes);
     bytes
 }
@@ -507,7 +568,7 @@ fn boundary(random: &mut Random) -> Vec<u8> {
         return longest(random);
     }
     let mut case = parts(random);
-    match random.below(14) {
+    match random.below(15) {
         0 => case.code.clear(),
         1 => case.fault = (case.code.len() + random.below(3)) as u16 - random.below(2).min(case.code.len()) as u16,
         2 => many_dimensions(random, &mut case),
@@ -521,6 +582,7 @@ fn boundary(random: &mut Random) -> Vec<u8> {
         10 => case.code = into_an_instruction(random, &mut case.fault),
         11 => case.members.iter_mut().for_each(|member| member.name = b"<init>".to_vec()),
         12 => long_names(random, &mut case),
+        13 => case.code = odd_array(random, &mut case.fault),
         _ => case.records.iter_mut().for_each(|record| record.name.clear()),
     }
     lay_out(&case)
@@ -636,9 +698,27 @@ fn deep(random: &mut Random, fault: &mut u16) -> Vec<u8> {
     code
 }
 
+/// A load under an array of any dimensions, from none to more than there are slots; its instruction may be cut.
+fn odd_array(random: &mut Random, fault: &mut u16) -> Vec<u8> {
+    let slots = random.below(5);
+    let dimensions = [0, 1, 2, 3, 4, 255][random.below(6)];
+    let mut code = [&[0x2a][..], &vec![4; slots], &[0xc5, dimensions, 1, dimensions]].concat();
+    let cut = code.len() - random.below(4);
+    if random.once_in(3) {
+        code.truncate(cut);
+    }
+    code.extend(vec![0x57; random.below(3)]);
+    *fault = code.len() as u16;
+    if !random.once_in(3) {
+        code.push(0xbe);
+    }
+    code
+}
+
 /// A branch into the operand of an instruction that the walk then reads from there.
 fn into_an_instruction(random: &mut Random, fault: &mut u16) -> Vec<u8> {
-    let mut code = vec![0xa7, 0, 4, 0x10, random.byte()];
+    let entered = [random.byte(), 0xc5, 0xb3, 0xb5, 0x5d][random.below(5)];
+    let mut code = vec![0xa7, 0, 4, 0x10, entered];
     code.extend((0..random.below(3)).map(|_| random.below(60) as u8));
     code.extend([0xbe, 0xb1]);
     *fault = code.len() as u16 - 2;

@@ -1,5 +1,7 @@
 //! The spaces that are lent, full of other things before, and what must stand in them after each answer.
 use crate::book::Book;
+use crate::model::{Model, MODELS};
+use crate::sample::line;
 use korsepal::{Answer, Name, Walk};
 
 /// What an unwritten cell and an unwritten byte hold.
@@ -41,30 +43,53 @@ impl Lender {
         self.bytes.starts_with(first) && self.bytes[first.len()..].iter().all(|&byte| byte == OLD_BYTE)
     }
 
-    /// A report with so much room gives the expected answer, zeros and bytes.
-    pub fn report(&mut self, book: &mut Book, case: &[u8], room: usize, output: usize, expected: Answer) {
+    /// The library's report in a model, in spaces that hold other things before.
+    fn reported(&mut self, model: Model, case: &[u8], room: usize, output: usize) -> Answer<'_> {
         self.prepare(room, output);
-        let answer = korsepal::report(case, &mut self.cells[..room], &mut self.bytes[..output]);
-        book.answer(answer_name(&answer));
-        if answer != expected {
-            let what = format!("report, room {room}, output {output}");
-            book.disagree(case, what, show_answer(&answer), show_answer(&expected));
-        }
-        let text = if let Answer::Message { text, .. } = expected { text } else { &[] };
-        book.expect(case, "stack all zero after a report", self.cells_are(room, &[]), true);
-        book.expect(case, "output after a report", self.bytes_are(text), true);
+        korsepal::report_in(model.manner(), case, &mut self.cells[..room], &mut self.bytes[..output])
     }
 
-    /// A walk with so much room gives the expected answer and cells.
-    pub fn walk(&mut self, book: &mut Book, case: &[u8], leader: u64, fault: u64, room: usize, expected: Walk) {
-        self.prepare(room, 0);
-        let answer = korsepal::walk(case, leader, fault, &mut self.cells[..room]);
+    /// A report in a model with so much room gives the expected answer, zeros and bytes.
+    pub fn report(&mut self, book: &mut Book, model: Model, case: &[u8], room: usize, output: usize, expected: Answer) {
+        let answer = self.reported(model, case, room, output);
+        book.answer(model, answer_name(&answer));
         if answer != expected {
-            let what = format!("walk from {leader} to {fault}, room {room}");
+            let what = model.named(&format!("report, room {room}, output {output}"));
+            book.disagree(case, what, show(answer), show(expected));
+        }
+        let text = if let Answer::Message { text, .. } = expected { text } else { &[] };
+        book.expect(case, &model.named("stack all zero after a report"), self.cells_are(room, &[]), true);
+        book.expect(case, &model.named("output after a report"), self.bytes_are(text), true);
+    }
+
+    /// The library by itself: where document 01's model gives a cause with one room, and the full one has room enough with another, both
+    /// give the same line.
+    pub fn same_cause(&mut self, book: &mut Book, case: &[u8], rooms: [usize; 2], output: usize) {
+        let [document, full] = [0, 1].map(|place| line(self.reported(MODELS[place], case, rooms[place], output)));
+        if document.starts_with(b"0 2 ") && !full.starts_with(b"3 ") && document != full {
+            let shown = |line: &[u8]| String::from_utf8_lossy(line).into_owned();
+            book.disagree(case, format!("the same cause, rooms {rooms:?}"), shown(&full), shown(&document));
+        }
+    }
+
+    /// A walk in a model with so much room gives the expected answer and cells.
+    pub fn walk(
+        &mut self,
+        book: &mut Book,
+        model: Model,
+        case: &[u8],
+        (leader, fault): (u64, u64),
+        room: usize,
+        expected: Walk,
+    ) {
+        self.prepare(room, 0);
+        let answer = korsepal::walk_in(model.manner(), case, leader, fault, &mut self.cells[..room]);
+        if answer != expected {
+            let what = model.named(&format!("walk from {leader} to {fault}, room {room}"));
             book.disagree(case, what, format!("{answer:?}"), format!("{expected:?}"));
         }
         let cells = if let Walk::Done { slots, .. } = expected { slots } else { &[] };
-        book.expect(case, "cells after a walk", self.cells_are(room, cells), true);
+        book.expect(case, &model.named("cells after a walk"), self.cells_are(room, cells), true);
     }
 
     /// A local's name with so much output gives the expected answer and bytes.
@@ -120,16 +145,13 @@ fn answer_name(answer: &Answer) -> &'static str {
         Answer::NoRoom { .. } => "answer 3, stack too small",
         Answer::NoOutput { .. } => "answer 4, output too small",
         Answer::TooLong => "answer 5, too long",
+        _ => "another answer",
     }
 }
 
-fn show_answer(answer: &Answer) -> String {
-    match answer {
-        Answer::Message { text, kind, scan, block } => {
-            format!("0 {kind} {scan} {block} {}", String::from_utf8_lossy(text))
-        }
-        other => format!("{other:?}"),
-    }
+/// An answer as the program's line.
+fn show(answer: Answer) -> String {
+    String::from_utf8_lossy(&line(answer)).into_owned()
 }
 
 fn show_name(name: &Name) -> String {

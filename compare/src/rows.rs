@@ -4,6 +4,7 @@ use crate::cases::Run;
 use crate::descriptors::STRICT_WRAPPED;
 use crate::differences::{measured, return_slots};
 use crate::layout::{self, lay_out, Member, Parts, Record};
+use crate::model::Model;
 use crate::rule::Facts;
 use crate::sample::line;
 use crate::sides::{quietly, Build, Checked, Held, Holding, Wrapped};
@@ -85,6 +86,61 @@ fn case_rows() -> Vec<(Parts, &'static str)> {
     ]
 }
 
+/// A static method with a field of type long at index 1.
+fn with_long(code: &[u8], fault: u16) -> Parts {
+    let field = Member { index: 1, class: b"a".to_vec(), name: b"f".to_vec(), descriptor: b"J".to_vec(), ..Member::default() };
+    Parts { members: vec![field], ..bare(code, fault, b"") }
+}
+
+/// Rows of document 02, request 1: a case, the cells lent, and its lines in document 01's model and in the full one; `~` and `^N` stand for
+/// the words of an array's length and of a cause.
+fn model_rows() -> Vec<(Parts, usize, &'static str, &'static str)> {
+    let arithmetic = layout::read(include_bytes!("../../examples/arithmetic.case")).expect("it keeps the layout");
+    vec![
+        // lshl takes three slots.
+        (bare(&[0x2a, 0x0a, 4, 0x79, 0x58, 0xbe], 5, b""), 8, "0 1 6 3 ~", "0 2 6 5 ~^0"),
+        // lcmp gives one.
+        (bare(&[0x2a, 9, 0x0a, 0x94, 0x57, 0xbe], 5, b""), 8, "0 1 6 3 ~", "0 2 6 5 ~^0"),
+        // dup_x1, dup_x2, dup2_x1, dup2_x2
+        (bare(&[0x2a, 0x2b, 0x5a, 0x57, 0x57, 0xbe], 5, b""), 8, "0 1 6 2 ~", "0 2 6 5 ~^1"),
+        (bare(&[0x2a, 0x2b, 0x2c, 0x5b, 0x57, 0x57, 0x57, 0xbe], 7, b""), 8, "0 1 8 3 ~", "0 2 8 7 ~^2"),
+        (bare(&[0x2a, 0x2b, 0x2c, 0x5d, 0x57, 0x57, 0x57, 0x57, 0xbe], 8, b""), 8, "0 1 9 3 ~", "0 2 9 8 ~^1"),
+        (
+            bare(&[0x2a, 0x2b, 0x2c, 0x2d, 0x5e, 0x57, 0x57, 0x57, 0x57, 0x57, 0xbe], 10, b""),
+            8,
+            "0 1 11 4 ~",
+            "0 2 11 10 ~^2",
+        ),
+        // putfield and putstatic of a long
+        (with_long(&[0x2a, 0x2b, 0x0a, 0xb5, 0, 1, 0xbe], 6), 8, "0 1 5 3 ~", "0 2 5 4 ~^0"),
+        (with_long(&[0x2a, 0x0a, 0xb3, 0, 1, 0xbe], 5), 8, "0 1 4 2 ~", "0 2 4 3 ~^0"),
+        // multianewarray of two dimensions, of none, and of more than there are slots
+        (bare(&[0x2a, 4, 4, 0xc5, 0, 1, 2, 0x57, 0xbe], 8, b""), 8, "0 1 6 3 ~", "0 2 6 5 ~^0"),
+        (bare(&[0x2a, 4, 4, 0xc5, 0, 1, 0, 0x57, 0xbe], 8, b""), 8, "0 1 6 3 ~", "0 1 6 3 ~"),
+        (bare(&[4, 0xc5, 0, 1, 2, 0x57, 0xbe], 6, b""), 8, "0 1 4 1 ~", "0 1 4 1 ~"),
+        // invokedynamic, wide and athrow are in neither.
+        (bare(&[0x2a, 0xba, 0, 1, 0, 0, 0xbe], 6, b""), 8, "0 1 3 1 ~", "0 1 3 1 ~"),
+        (bare(&[0xc4, 0x19, 0, 0, 0xbe], 4, b""), 8, "0 1 2 0 ~", "0 1 2 0 ~"),
+        // Room is missed where document 01's model gave up before.
+        (bare(&[3, 4, 0x60, 0x2a, 0x2b, 0x2c, 0xbe], 6, b""), 2, "0 1 7 2 ~", "3 0 0 0 4"),
+        (
+            arithmetic,
+            8,
+            "0 1 6 3 Cannot load from double array",
+            "0 2 6 4 Cannot load from double array because \"z\" is null",
+        ),
+    ]
+}
+
+/// The words that `~` and `^N` stand for.
+fn spelled_out(row: &str) -> String {
+    let row = row.replace('~', "Cannot read the array length");
+    match row.split_once('^') {
+        Some((action, local)) => format!("{action} because \"<local{local}>\" is null"),
+        None => row,
+    }
+}
+
 /// A descriptor, and its slots, return slots and list.
 const LENIENT_ROWS: [(&str, &str); 9] = [
     ("(IJ[D)V", "4 0 int, long, double[]"),
@@ -143,15 +199,25 @@ fn strict(answer: Result<Vec<u64>, u32>) -> Vec<u8> {
     }
 }
 
-/// Compares the two sides on the rows, and the Rust with what the rows say.
+/// Compares the two sides on a case, and what is expected of it, which the rules say, with its rows.
+fn compare_row(run: &mut Run, parts: &Parts, room: usize, rows: &[(Model, &str)]) {
+    let bytes = lay_out(parts);
+    run.book.case("fixed rows");
+    run.case(&bytes);
+    let facts = Facts::of(parts);
+    for (model, row) in rows {
+        let said = String::from_utf8(line(facts.answer(*model, room, 128))).expect("the rows are UTF-8");
+        run.book.expect(&bytes, &model.named("row"), spelled_out(row), said);
+    }
+}
+
+/// Compares the two sides on the rows, and the rules with what the rows say.
 pub fn compare(run: &mut Run) {
     for (parts, expected) in case_rows() {
-        let bytes = lay_out(&parts);
-        let expected = expected.replace('~', "Cannot read the array length");
-        run.book.case("fixed rows");
-        run.case(&bytes);
-        let said = String::from_utf8(line(Facts::of(&parts).answer(16, 128))).expect("the rows are UTF-8");
-        run.book.expect(&bytes, "row", expected, said);
+        compare_row(run, &parts, 16, &[(Model::Document, expected)]);
+    }
+    for (parts, room, document, full) in model_rows() {
+        compare_row(run, &parts, room, &[(Model::Document, document), (Model::Full, full)]);
     }
     for (code, pc, expected) in length_rows() {
         run.book.case("fixed rows");

@@ -1,9 +1,11 @@
 //! What the Rust says of a case, and what follows from it by documents 01 and 02: counts, answers and room.
 //!
-//! The walk from a leader lands at an index exactly when `simulate_block` reaches it. So its landings, their number and their
-//! heights are the Rust's own.
+//! In document 01's model the walk from a leader lands at an index exactly when `simulate_block` reaches it. So its landings, their
+//! number and their heights are the Rust's own. In the full model they are those of `full.rs`; action, depth and names are the Rust's.
 use crate::differences::{cut_signature, plain_methods, scan};
+use crate::full::FullWalk;
 use crate::layout::Parts;
+use crate::model::Model;
 use crate::sides::{quietly, Build, Checked, Held, Holding, Origin, Wrapped};
 use korsepal::{Answer, Walk};
 
@@ -16,7 +18,7 @@ pub struct Landing {
     /// The index of the instruction.
     pub by: usize,
     /// Where the walk stands then.
-    place: usize,
+    pub place: usize,
     pub height: usize,
 }
 
@@ -58,30 +60,33 @@ impl Landings {
     }
 }
 
-/// A walk of the Rust, from a leader to a fault.
+/// A walk from a leader to a fault.
 pub struct Walked {
     /// One to a completed instruction, the one that passes the fault included.
     pub landings: Vec<Landing>,
-    /// The cells, where the fault is reached.
-    pub cells: Option<Vec<u64>>,
+    /// The slots, bottom first, where the fault is reached; and their cells.
+    slots: Option<Vec<Origin>>,
+    cells: Option<Vec<u64>>,
 }
 
 /// A cell by document 01: 0 when opaque, else 1 + 256 * load index + local.
-fn cell(origin: Origin) -> u64 {
+fn cell(origin: &Origin) -> u64 {
     match origin {
         None => 0,
-        Some((local, load)) => 1 + 256 * load as u64 + u64::from(local),
+        Some((local, load)) => 1 + 256 * *load as u64 + u64::from(*local),
     }
 }
 
 impl Walked {
-    /// The walk to a fault, over landings of the same leader and code.
-    pub fn new(side: &impl Build, code: &[u8], landings: &mut Landings, fault: usize) -> Self {
+    pub fn new(landings: Vec<Landing>, slots: Option<Vec<Origin>>) -> Self {
+        let cells = slots.as_ref().map(|slots| slots.iter().map(cell).collect());
+        Walked { landings, slots, cells }
+    }
+
+    /// The walk of the Rust to a fault, over landings of the same leader and code.
+    fn by_rust(side: &impl Build, code: &[u8], landings: &mut Landings, fault: usize) -> Self {
         let leader = landings.leader;
-        Walked {
-            landings: landings.up_to(side, code, fault).to_vec(),
-            cells: side.walk(code, leader, fault).map(|list| list.into_iter().map(cell).collect()),
-        }
+        Walked::new(landings.up_to(side, code, fault).to_vec(), side.walk(code, leader, fault))
     }
 
     /// The greatest height.
@@ -106,7 +111,42 @@ impl Walked {
     }
 }
 
-/// What the Rust says of a case that keeps its layout.
+/// Walks of an earlier fault of the method at hand, in both models.
+#[derive(Default)]
+pub struct Kept {
+    landings: Option<Landings>,
+    full: Option<FullWalk>,
+}
+
+impl Kept {
+    fn rust_walk(&mut self, walker: &impl Build, code: &[u8], leader: usize, fault: usize) -> Walked {
+        Walked::by_rust(walker, code, Landings::kept(&mut self.landings, leader), fault)
+    }
+
+    fn full_walk(&mut self, parts: &Parts, leader: usize, fault: usize) -> Walked {
+        FullWalk::kept(&mut self.full, leader, fault).up_to(parts, fault)
+    }
+}
+
+/// What a case comes to in one of the models.
+pub struct Said {
+    pub message: Option<Vec<u8>>,
+    pub walked: Option<Walked>,
+}
+
+impl Said {
+    /// The greatest height of the walk.
+    pub fn highest(&self) -> usize {
+        self.walked.as_ref().map_or(0, Walked::highest)
+    }
+
+    /// The bytes that the message takes, or some.
+    pub fn length(&self) -> usize {
+        self.message.as_ref().map_or(8, Vec::len)
+    }
+}
+
+/// What the Rust says of a case that keeps its layout, and the rule of the full model.
 pub struct Facts {
     pub holding: Holding,
     pub checked: Checked,
@@ -123,17 +163,17 @@ pub struct Facts {
     /// The wrapped build's own message, and whether it is another than that of the rules.
     own_message: Option<Vec<u8>>,
     pub wrapped_differs: bool,
-    pub action: Option<Vec<u8>>,
-    pub message: Option<Vec<u8>>,
+    action: Option<Vec<u8>>,
+    document: Said,
+    full: Said,
     pub scan: usize,
     pub leader: Option<usize>,
-    pub walked: Option<Walked>,
 }
 
-/// The message put together as `build_message` does, for a leader and a walk that stand in for its own.
-fn composed(side: &Wrapped, walker: &Wrapped, code: &[u8], leader: Option<usize>, fault: usize) -> Option<String> {
+/// The message put together as `build_message` does, for a walk that stands in for its own.
+fn composed(side: &Wrapped, code: &[u8], fault: usize, walked: Option<&Walked>) -> Option<String> {
     let (action, depth) = side.action(code, fault)?;
-    let slots = leader.and_then(|leader| walker.walk(code, leader, fault)).unwrap_or_default();
+    let slots = walked.and_then(|walked| walked.slots.as_deref()).unwrap_or_default();
     let origin = slots.len().checked_sub(1 + depth).and_then(|place| slots[place]);
     Some(match origin {
         Some((local, load)) => format!("{action} because \"{}\" is null", side.name(local, load)),
@@ -143,11 +183,11 @@ fn composed(side: &Wrapped, walker: &Wrapped, code: &[u8], leader: Option<usize>
 
 impl Facts {
     pub fn of(parts: &Parts) -> Self {
-        Self::with(parts, &mut None)
+        Self::with(parts, &mut Kept::default())
     }
 
-    /// The facts of a case, over landings that an earlier fault of the same method left.
-    pub fn with(parts: &Parts, landings: &mut Option<Landings>) -> Self {
+    /// The facts of a case, over walks that an earlier fault of the same method left.
+    pub fn with(parts: &Parts, kept: &mut Kept) -> Self {
         let code = &parts.code;
         let fault = usize::from(parts.fault);
         let cut = cut_signature(&parts.signature, parts.flags & 8 != 0);
@@ -160,12 +200,15 @@ impl Facts {
         let scan = scan(code);
         let leader = scan.by_rules(scan.rust_leader(fault));
         let walker = plain.as_ref().unwrap_or(&wrapped);
+        let walked = leader.map(|leader| kept.rust_walk(walker, code, leader, fault));
         let stands_in = scan.wide || scan.reserved || plain.is_some();
-        let message = if stands_in { composed(&wrapped, walker, code, leader, fault) } else { wrapped.message(fault) };
+        let message = if stands_in { composed(&wrapped, code, fault, walked.as_ref()) } else { wrapped.message(fault) };
+        let full = leader.map(|leader| kept.full_walk(parts, leader, fault));
+        let full_message = composed(&wrapped, code, fault, full.as_ref());
         let may_differ = stands_in || cut.is_some();
         let own_message = if may_differ { Wrapped::over(parts, &whole).message(fault) } else { message.clone() };
         let holding = whole.holding;
-        let walked = leader.map(|leader| Walked::new(walker, code, Landings::kept(landings, leader), fault));
+        let said = |message: Option<String>, walked| Said { message: message.map(|text| holding.release(text)), walked };
         Facts {
             holding,
             falling: scan.falling,
@@ -175,10 +218,10 @@ impl Facts {
             wrapped_differs: own_message != message,
             own_message: own_message.map(|message| holding.release(message)),
             action: wrapped.action(code, fault).map(|(action, _)| holding.release(action)),
-            message: message.map(|message| holding.release(message)),
+            document: said(message, walked),
+            full: said(full_message, full),
             scan: scan.count,
             leader,
-            walked,
             checked,
             wrapped,
             plain,
@@ -190,9 +233,21 @@ impl Facts {
         self.plain.is_some()
     }
 
-    /// The build that walks by the rules.
-    pub fn walker(&self) -> &Wrapped {
-        self.plain.as_ref().unwrap_or(&self.wrapped)
+    /// What the case comes to in a model.
+    pub fn said(&self, model: Model) -> &Said {
+        match model {
+            Model::Document => &self.document,
+            Model::Full => &self.full,
+        }
+    }
+
+    /// The walk from any leader to any fault in a model.
+    pub fn walk(&self, model: Model, parts: &Parts, leader: usize, fault: usize) -> Walked {
+        let walker = self.plain.as_ref().unwrap_or(&self.wrapped);
+        match model {
+            Model::Document => Walked::by_rust(walker, &parts.code, &mut Landings::new(leader), fault),
+            Model::Full => FullWalk::new(leader).up_to(parts, fault),
+        }
     }
 
     /// Whether the Rust has the same rules: no request of document 02 changed them for such a case.
@@ -202,7 +257,7 @@ impl Facts {
 
     /// The message that the checked build must give where it does not panic.
     pub fn checked_expected(&self) -> Option<Vec<u8>> {
-        let expected = if self.own_rules() { &self.message } else { &self.own_message };
+        let expected = if self.own_rules() { &self.document.message } else { &self.own_message };
         expected.clone()
     }
 
@@ -217,15 +272,17 @@ impl Facts {
         Some(message.map(|message| self.holding.release(message)))
     }
 
-    /// The greatest height of the walk.
-    pub fn highest(&self) -> usize {
-        self.walked.as_ref().map_or(0, Walked::highest)
+    /// Whether a model gives a cause, where there is room.
+    pub fn has_cause(&self, model: Model) -> bool {
+        let message = &self.said(model).message;
+        message.is_some() && self.action != *message
     }
 
-    /// What a report answers with room for so many slots and bytes.
-    pub fn answer(&self, room: usize, output: usize) -> Answer<'_> {
-        let Some(message) = &self.message else { return Answer::NoMessage };
-        if let Some(at) = self.walked.as_ref().and_then(|walked| walked.lacking(room)) {
+    /// What a report answers in a model, with room for so many slots and bytes.
+    pub fn answer(&self, model: Model, room: usize, output: usize) -> Answer<'_> {
+        let Said { message, walked } = self.said(model);
+        let Some(message) = message else { return Answer::NoMessage };
+        if let Some(at) = walked.as_ref().and_then(|walked| walked.lacking(room)) {
             return Answer::NoRoom { at };
         }
         if message.len() > output {
@@ -233,9 +290,9 @@ impl Facts {
         }
         Answer::Message {
             text: message,
-            kind: if self.action.as_ref() == Some(message) { 1 } else { 2 },
+            kind: if self.has_cause(model) { 2 } else { 1 },
             scan: self.scan as u32,
-            block: self.walked.as_ref().map_or(0, |walked| walked.landings.len() as u32),
+            block: walked.as_ref().map_or(0, |walked| walked.landings.len() as u32),
         }
     }
 }

@@ -5,6 +5,7 @@ use crate::descriptors::{made, Strict, STRICT_WRAPPED};
 use crate::differences::return_slots;
 use crate::layout::{self, Wrong};
 use crate::make;
+use crate::model::Model;
 use crate::random::Random;
 use crate::rule::Facts;
 use crate::sides::{Build, Holding, Wrapped};
@@ -88,6 +89,7 @@ pub fn line(answer: Answer) -> Vec<u8> {
         Answer::NoRoom { at } => format!("3 0 0 0 {at}").into_bytes(),
         Answer::NoOutput { needed } => format!("4 0 0 0 {needed}").into_bytes(),
         Answer::TooLong => b"5 0 0 0".to_vec(),
+        other => unreachable!("no report gives {other:?}"),
     }
 }
 
@@ -101,7 +103,7 @@ fn case(bytes: &[u8]) -> Option<(Row, usize)> {
             if facts.listed() {
                 return None;
             }
-            let answer = facts.answer(ROOM, OUTPUT);
+            let answer = facts.answer(Model::Document, ROOM, OUTPUT);
             (line(answer), sort(&answer))
         }
     };
@@ -118,7 +120,7 @@ fn sort(answer: &Answer) -> usize {
         Answer::NoMessage => 2,
         Answer::NoRoom { .. } => 4,
         Answer::NoOutput { .. } => 5,
-        Answer::Broken { .. } | Answer::TooLong => 3,
+        _ => 3,
     }
 }
 
