@@ -54,19 +54,47 @@ fn repeated(unit: &[u8], length: usize) -> Vec<u8> {
     body
 }
 
-/// The units of straight-line code, each of which leaves the stack as it was.
-const STRAIGHT: [&[u8]; 6] = [
-    &[42, 87],                             // aload_0, pop
-    &[4, 60, 27, 61, 132, 1, 1],           // iconst_1, istore_1, iload_1, istore_2, iinc
-    &[42, 180, 0, 1, 87],                  // aload_0, getfield, pop
-    &[42, 4, 182, 0, 2, 87],               // aload_0, iconst_1, invokevirtual, pop
-    &[42, 192, 0, 5, 76],                  // aload_0, checkcast, astore_1
-    &[42, 43, 44, 9, 182, 0, 4, 77, 178, 0, 3, 88], // aload_0 to 2, lconst_0, invokevirtual, astore_2, getstatic, pop2
+/// A unit of straight-line code, which leaves the stack as it was, and what it does.
+type Unit = (&'static str, &'static [u8]);
+
+/// The units that document 01's model walks.
+const STRAIGHT: [Unit; 6] = [
+    ("loads and pops", &[42, 87]), // aload_0, pop
+    ("int locals", &[4, 60, 27, 61, 132, 1, 1]), // iconst_1, istore_1, iload_1, istore_2, iinc
+    ("field reads", &[42, 180, 0, 1, 87]), // aload_0, getfield, pop
+    ("calls", &[42, 4, 182, 0, 2, 87]), // aload_0, iconst_1, invokevirtual, pop
+    ("casts", &[42, 192, 0, 5, 76]), // aload_0, checkcast, astore_1
+    // aload_0 to 2, lconst_0, invokevirtual, astore_2, getstatic, pop2
+    ("calls and static reads", &[42, 43, 44, 9, 182, 0, 4, 77, 178, 0, 3, 88]),
 ];
+
+/// The units of solver code, which only the full model walks: arithmetic among loads and stores.
+const SOLVER: [Unit; 6] = [
+    ("products of doubles", &[39, 41, 107, 72]), // dload_1, dload_3, dmul, dstore_1
+    ("int sums, converted", &[27, 4, 96, 60, 27, 135, 72]), // iload_1, iconst_1, iadd, istore_1, iload_1, i2d, dstore_1
+    ("array loads and stores", &[42, 27, 43, 27, 49, 39, 99, 82]), // aload_0, iload_1, aload_1, iload_1, daload, dload_1, dadd, dastore
+    ("field sums", &[42, 89, 180, 0, 3, 39, 99, 181, 0, 3]), // aload_0, dup, getfield, dload_1, dadd, putfield
+    ("comparisons", &[39, 41, 151, 60, 30, 32, 148, 60]), // dload_1, dload_3, dcmpl, istore_1, lload_0, lload_2, lcmp, istore_1
+    ("counts in an array", &[42, 27, 92, 46, 91, 4, 96, 79, 60]), // aload_0, iload_1, dup2, iaload, dup_x2, iconst_1, iadd, iastore, istore_1
+];
+
+fn long_method((_, unit): Unit, length: usize) -> Case {
+    ended(repeated(unit, length), few_members())
+}
 
 /// A long method without a branch, of one unit.
 pub fn straight_of(unit: usize, length: usize) -> Case {
-    ended(repeated(STRAIGHT[unit], length), few_members())
+    long_method(STRAIGHT[unit], length)
+}
+
+/// A long method of each unit that document 01's model walks, with what the unit does.
+pub fn straight_units(length: usize) -> Vec<(&'static str, Case)> {
+    STRAIGHT.iter().map(|unit| (unit.0, long_method(*unit, length))).collect()
+}
+
+/// A long method of each unit of solver code.
+pub fn solver_units(length: usize) -> Vec<(&'static str, Case)> {
+    SOLVER.iter().map(|unit| (unit.0, long_method(*unit, length))).collect()
 }
 
 /// Long methods without a branch.

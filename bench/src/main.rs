@@ -15,6 +15,7 @@ mod clock;
 mod groups;
 mod growth;
 mod made;
+mod models;
 mod names;
 mod pair;
 mod parts;
@@ -65,6 +66,8 @@ fn progress(words: &str) {
 struct Results {
     rows: Vec<groups::Row>,
     parts: Vec<(String, parts::Parts)>,
+    in_both: Vec<models::InBoth>,
+    paces: Vec<models::Pace>,
     names: Vec<(String, Option<clock::Times>)>,
     curves: Vec<growth::Curve>,
     hostile: Vec<growth::Hostile>,
@@ -87,6 +90,8 @@ fn measure(plan: &Plan) -> Results {
     Results {
         rows: groups.iter().flat_map(|group| rows_of(group, plan)).collect(),
         parts: groups.iter().map(|group| (group.name.clone(), parts::of_group(group, 3, &mut progress))).collect(),
+        in_both: groups.iter().map(|group| models::of_group(group, plan.rounds, &mut progress)).collect(),
+        paces: models::paces(plan.lengths.last().copied().unwrap_or(made::LONGEST), plan.rounds, &mut progress),
         names: names::measure(plan.rounds, &mut progress),
         curves: growth::curves(plan.rounds, &mut progress),
         hostile: growth::hostile(plan.hostile, plan.rounds, &mut progress),
@@ -120,6 +125,13 @@ fn page(plan: &Plan, results: &Results) -> String {
         &table::parts(&results.parts),
         "\nThe walk is a walk's time less that of reading; the rest is decoding the fault, naming the local, measuring the message and\n",
         "writing it: the report less the others, where that is below 0 it is shown as 0. Medians, each of its own.\n",
+        "\n### The full model\n\n",
+        &table::in_both(&results.in_both),
+        "\nReports of the same cases in both models, where they say the same after as many instructions. The ratio is a median, and the\n",
+        "greatest of the group.\n\n",
+        &table::paces(&results.paces),
+        "\nThe walk alone, to the instruction, without the time of reading the case. Solver code is walked by the full model only, and is set\n",
+        "against the median of document 01's.\n",
         "\n### Names made of a number\n\n",
         &table::names(&results.names),
         "\nThe name alone, of a local without a record: the library from the bytes of a case, the Rust from prepared objects.\n",

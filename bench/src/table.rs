@@ -4,6 +4,7 @@ use crate::before::Moved;
 use crate::clock::Times;
 use crate::growth::{Curve, Hostile};
 use crate::groups::{median, Row};
+use crate::models::{InBoth, Pace};
 use crate::parts::Parts;
 
 /// Nanoseconds with their unit, three digits or so.
@@ -94,6 +95,47 @@ pub fn names(rows: &[(String, Option<Times>)]) -> String {
         [format!("`{name}`")].into_iter().chain(figures).collect()
     };
     laid_out(&head, &rows.iter().map(cells).collect::<Vec<_>>())
+}
+
+/// One line a group: document 01's model and the full one on the cases that both walk alike.
+pub fn in_both(groups: &[InBoth]) -> String {
+    let head = ["group", "cases", "walked further", "document 01's", "full", "full / document 01's", "greatest"];
+    let cells = |group: &InBoth| {
+        let slower = || group.times.iter().map(|times| times.library / times.other);
+        vec![
+            group.name.clone(),
+            grouped(group.times.len()),
+            grouped(group.further),
+            duration(median(group.times.iter().map(|times| times.other))),
+            duration(median(group.times.iter().map(|times| times.library))),
+            ratio(median(slower())),
+            ratio(slower().fold(0.0, f64::max)),
+        ]
+    };
+    laid_out(&head, &groups.iter().map(cells).collect::<Vec<_>>())
+}
+
+/// One line a long method. Solver code is set against the median pace of document 01's model.
+pub fn paces(paces: &[Pace]) -> String {
+    let head = ["straight-line code", "instructions", "document 01's", "full", "full / document 01's"];
+    let usual = median(paces.iter().filter_map(|pace| pace.document));
+    let cells = |pace: &Pace| {
+        vec![
+            pace.name.to_string(),
+            grouped(pace.instructions as usize),
+            pace.document.map_or("-".to_string(), duration),
+            duration(pace.full),
+            ratio(pace.full / pace.document.unwrap_or(usual)),
+        ]
+    };
+    let solver = median(paces.iter().filter(|pace| pace.document.is_none()).map(|pace| pace.full));
+    let table = laid_out(&head, &paces.iter().map(cells).collect::<Vec<_>>());
+    format!(
+        "{table}\nThe median in document 01's model is {}, of solver code in the full one {}: {} times as long.\n",
+        duration(usual),
+        duration(solver),
+        ratio(solver / usual)
+    )
 }
 
 /// An earlier build of the library, and this one.
