@@ -12,7 +12,7 @@ use Rattle.basics.proofs.Each.{each-length, each-take, each-append}
 use Rattle.jvms.specs.Machine.{State, citedAt, localAt, below, topmost, run}
 use Rattle.jvms.specs.Stack.{Local, indexed, numbered, Entry, unlisted, does, eitherOf, loads, stores, increments, throws, Cited, keyAt, entryAt}
 use Rattle.effects.specs.Agreement.{takenBy, Carried, Pushed, localOf, Details}
-use Rattle.effects.specs.Rows.{Row, unmodelled, opaque, aload, aloadOf, carries, keeps, gets, calls}
+use Rattle.effects.specs.Rows.{Row, unmodelled, opaque, aload, aloadOf, carries, keeps, gets, calls, puts, makes}
 use Rattle.walk.specs.Walk.{Push}
 use Rattle.truth.specs.Relation.{Held, Setting, ownBy, own, Speaks, Given}
 use Rattle.truth.proofs.Carried.{held-carried}
@@ -66,7 +66,7 @@ module _ {A Val : Type 0} (s : Setting A Val) where
         (entry : Entry) (l : Local) → localOf entry ≡ l ∷ [] → ownBy s st entry 0 ≡ st .locals (localAt (s .code) (st .pc) l)
     loaded-first unlisted l e = no-local e
     loaded-first (does f) l e = no-local e
-    loaded-first (eitherOf f g) l e = no-local e
+    loaded-first (eitherOf f others) l e = no-local e
     loaded-first (loads m f) l e =
         let same : m ≡ l = cc in
         rw same (ap (λ (n : ℕ). st .locals n) (add-zero (localAt (s .code) (st .pc) l)))
@@ -102,3 +102,5 @@ module _ {A Val : Type 0} (s : Setting A Val) where
     held-pushed list keeps put a details enough e = rw e none
     held-pushed list (gets taken) put a details enough e = held-blanks (cited .field) put e
     held-pushed list (calls taken) put a details enough e = held-blanks (cited .gives) put e
+    held-pushed list (puts taken) put a details enough e = rw e none
+    held-pushed list makes put a details enough e = held-blanks 1 put e

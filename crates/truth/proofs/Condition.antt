@@ -12,9 +12,9 @@ use Rattle.bytecode.specs.Rule.{LengthRule, document-rule, length-rule}
 use Rattle.leaders.proofs.Declared.{nothing-lands-between, nothing-added-between}
 use Rattle.effects.specs.Depth.{depthOf, at}
 use Rattle.effects.specs.Lookup.{Lookup, lookupIn}
-use Rattle.effects.specs.Rows.{rowOf}
-use Rattle.effects.proofs.Rows.{rows-agree}
-use Rattle.walk.specs.Room.{completed, blockWalk}
+use Rattle.effects.specs.Rows.{rowsOf}
+use Rattle.effects.proofs.Rows.{model-agrees}
+use Rattle.walk.specs.Room.{completed, blockWalkIn}
 use Rattle.cell.specs.Cell.{cellOf}
 use Rattle.walk.specs.Walk.{cells, walk}
 use Rattle.truth.specs.Condition.{Described, Findings, PremisesBy, ConditionOver, Condition3, DocumentCondition3}
@@ -33,14 +33,14 @@ module _ {rule : LengthRule} {handlers : List ℕ} (f : Findings) (pool : Pool) 
 
   -- the walk without room
   fits :
-      Fitted (p .room) (completed cells rowOf lookup (f .code) (f .fault) (f .leader))
-      (walk cells rowOf lookup (f .code) (f .fault) (f .leader)) (f .height) (f .count)
-  unfolding blockWalk
+      Fitted (p .room) (completed cells (rowsOf (f .model)) lookup (f .code) (f .fault) (f .leader))
+      (walk cells (rowsOf (f .model)) lookup (f .code) (f .fault) (f .leader)) (f .height) (f .count)
+  unfolding blockWalkIn
   fits = fitted (p .room) _ _ (f .height) (f .count) (p .walked)
 
   -- the slots that are reported are the walk's
   slots-are : take (f .height) (f .stack) ≡ fits .slots
-  unfolding blockWalk
+  unfolding blockWalkIn
   slots-are = ap (take (f .height)) (p .left) ∙ fits .shows
 
   pub slots-tall : length (take (f .height) (f .stack)) ≡ f .height
@@ -60,7 +60,7 @@ module _ {rule : LengthRule} {handlers : List ℕ} (f : Findings) (pool : Pool) 
           leader = f .leader;
           fault = f .fault;
           lookup = lookup;
-          rows = rowOf;
+          rows = rowsOf (f .model);
           marks = cells;
           pool = pool;
           opaque = opaque;
@@ -70,7 +70,7 @@ module _ {rule : LengthRule} {handlers : List ℕ} (f : Findings) (pool : Pool) 
         }
 
     given : Given setting
-    given = record { agrees = rows-agree; bytes = p .bytes; inside = p .inside; described = p .described }
+    given = record { agrees = model-agrees (f .model); bytes = p .bytes; inside = p .inside; described = p .described }
 
     speaks : (j : ℕ) → j < f .count → Speaks setting (states j)
     speaks j early =

@@ -1,5 +1,5 @@
--- Condition 3 has force: a walk's list with one opaque slot marked as a load, or with one load's local changed, is refuted; and a
--- list with a load marked opaque is not the walk's.
+-- Condition 3 has force: a walk's list with one opaque slot marked as a load, with one load's local changed, or with a copy in a
+-- wrong place, is refuted; and a list with a load marked opaque is not the walk's.
 -- Assumes nothing.
 use Prim.Native.Nat.{ℕ, zero, suc, _+_, _<_}
 use native.Mathlib.Omega.{arith}
@@ -12,8 +12,9 @@ use Rattle.jvms.specs.Format.{formatOf}
 use Rattle.jvms.specs.Machine.{Pool, State, ran}
 use Rattle.jvms.specs.Stack.{entryOf}
 use Rattle.fixed.specs.Fixed.{fixedLength}
-use Rattle.effects.specs.Rows.{rowOf}
-use Rattle.walk.specs.Room.{completedFrom, completed, blockWalk, cellsOf}
+use Rattle.effects.specs.Rows.{rowOf, addedRow, fullRowOf}
+use Rattle.effects.specs.declared.Model.the-variants.{Document, Full}
+use Rattle.walk.specs.Room.{completedFrom, completed, blockWalk, blockWalkIn, cellsOf}
 use Rattle.cell.specs.Cell.{cellOf}
 use Rattle.walk.specs.Walk.{step, walkFrom, walk}
 use Rattle.truth.specs.Cause.{Leaves, HasForce}
@@ -38,8 +39,8 @@ module _ (code : List ℕ) (pool : Pool) (fault count : ℕ) (wrong : List ℕ) 
 abbrev nullCode : List ℕ
 nullCode = 0x01 ∷ 0xbe ∷ []
 
-null-walked : Leaves nullCode 1 1 (0 ∷ [])
-unfolding blockWalk completed completedFrom walk walkFrom step rowOf fixedLength formatOf
+null-walked : Leaves Document nullCode 1 1 (0 ∷ [])
+unfolding blockWalkIn completed completedFrom walk walkFrom step rowOf fixedLength formatOf
 null-walked = refl
 
 null-keeps : (pool : Pool) (j : ℕ) → j < 1 → numbers pool nullCode j .locals 0 ≡ 0
@@ -54,8 +55,8 @@ null-leaves pool = refl
 abbrev loadCode : List ℕ
 loadCode = 0x2b ∷ 0xbe ∷ []
 
-load-walked : Leaves loadCode 1 1 (cellOf 0 1 ∷ [])
-unfolding blockWalk completed completedFrom walk walkFrom step rowOf fixedLength formatOf
+load-walked : Leaves Document loadCode 1 1 (cellOf 0 1 ∷ [])
+unfolding blockWalkIn completed completedFrom walk walkFrom step rowOf fixedLength formatOf
 load-walked = refl
 
 load-keeps : (pool : Pool) (j : ℕ) → j < 1 → numbers pool loadCode j .locals 0 ≡ 0
@@ -70,8 +71,8 @@ load-leaves pool = refl
 abbrev mixedCode : List ℕ
 mixedCode = 0x2a ∷ 0x01 ∷ 0xbe ∷ []
 
-mixed-walked : Leaves mixedCode 2 2 (cellOf 0 0 ∷ 0 ∷ [])
-unfolding blockWalk completed completedFrom walk walkFrom step rowOf fixedLength formatOf
+mixed-walked : Leaves Document mixedCode 2 2 (cellOf 0 0 ∷ 0 ∷ [])
+unfolding blockWalkIn completed completedFrom walk walkFrom step rowOf fixedLength formatOf
 mixed-walked = refl
 
 mixed-keeps : (pool : Pool) (j : ℕ) → j < 2 → numbers pool mixedCode j .locals 0 ≡ 0
@@ -87,14 +88,50 @@ mixed-leaves pool = refl
 abbrev loadsCode : List ℕ
 loadsCode = 0x2a ∷ 0x2b ∷ 0xbe ∷ []
 
-loads-walked : Leaves loadsCode 2 2 (cellOf 0 0 ∷ cellOf 1 1 ∷ [])
-unfolding blockWalk completed completedFrom walk walkFrom step rowOf fixedLength formatOf
+loads-walked : Leaves Document loadsCode 2 2 (cellOf 0 0 ∷ cellOf 1 1 ∷ [])
+unfolding blockWalkIn completed completedFrom walk walkFrom step rowOf fixedLength formatOf
 loads-walked = refl
 
 loads-other : cellsOf 2 (blockWalk loadsCode [] 0 0 2 2) ≡ cellOf 0 0 ∷ 0 ∷ [] → ⊥
 loads-other e =
     let second : cellOf 1 1 ≡ 0 = rw loads-walked at (ap (λ (cells : List ℕ). getD cells 1 0) e) in
     omega (arith, second)
+
+abbrev negCode : List ℕ
+negCode = 0x2a ∷ 0x74 ∷ 0xbe ∷ []
+
+neg-walked : Leaves Full negCode 2 2 (0 ∷ [])
+unfolding blockWalkIn completed completedFrom walk walkFrom step rowOf addedRow fullRowOf fixedLength formatOf
+neg-walked = refl
+
+neg-keeps : (pool : Pool) (j : ℕ) → j < 2 → numbers pool negCode j .locals 0 ≡ 0
+unfolding ran entryOf
+neg-keeps pool zero below = refl
+neg-keeps pool (suc zero) below = refl
+neg-keeps pool (suc (suc j)) below = absurd (omega arith)
+
+neg-leaves : (pool : Pool) → getD (numbers pool negCode 2 .stack) 0 0 ≡ 1
+unfolding ran entryOf formatOf extentAt
+neg-leaves pool = refl
+
+abbrev copyCode : List ℕ
+copyCode = 0x2a ∷ 0x2b ∷ 0x5a ∷ 0xbe ∷ []
+
+copy-walked : Leaves Full copyCode 3 3 (cellOf 1 1 ∷ cellOf 0 0 ∷ cellOf 1 1 ∷ [])
+unfolding blockWalkIn completed completedFrom walk walkFrom step rowOf addedRow fullRowOf fixedLength formatOf
+copy-walked = refl
+
+copy-keeps : (pool : Pool) (j : ℕ) → j < 3 → numbers pool copyCode j .locals 0 ≡ 0
+unfolding ran entryOf formatOf extentAt
+copy-keeps pool zero below = refl
+copy-keeps pool (suc zero) below = refl
+copy-keeps pool (suc (suc zero)) below = refl
+copy-keeps pool (suc (suc (suc j))) below = absurd (omega arith)
+
+-- what lies at the bottom is local 1's
+copy-leaves : (pool : Pool) → getD (numbers pool copyCode 3 .stack) 0 0 ≡ 1
+unfolding ran entryOf formatOf extentAt
+copy-leaves pool = refl
 
 pub has-force : HasForce
 has-force =
@@ -115,4 +152,14 @@ has-force =
             untrue = λ pool. refuted mixedCode pool 2 2 _ 1 1 (mixed-keeps pool) (mixed-leaves pool) (lit< tt) refl;
           };
       restOpaque = record { walked = loads-walked; other = loads-other };
+      resultMarked =
+          record {
+            walked = neg-walked;
+            untrue = λ pool. refuted negCode pool 2 2 _ 0 0 (neg-keeps pool) (neg-leaves pool) (lit< tt) refl;
+          };
+      copyMisplaced =
+          record {
+            walked = copy-walked;
+            untrue = λ pool. refuted copyCode pool 3 3 _ 0 0 (copy-keeps pool) (copy-leaves pool) (lit< tt) refl;
+          };
     }

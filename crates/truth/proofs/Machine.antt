@@ -66,7 +66,7 @@ module _ {A Val : Type 0} (s : Setting A Val) (st : State Val) where
   pub acted : (entry : Entry) → T (hasForm (formsOf entry)) → Acted entry
   acted unlisted t = absurd t
   acted (does f) t = record { form = f; its = List·Memᴰ·head refl; stack = refl; pc = refl }
-  acted (eitherOf f g) t = record { form = f; its = List·Memᴰ·head refl; stack = refl; pc = refl }
+  acted (eitherOf f others) t = record { form = f; its = List·Memᴰ·head refl; stack = refl; pc = refl }
   acted (loads l f) t = record { form = f; its = List·Memᴰ·head refl; stack = refl; pc = refl }
   acted (stores l f) t = record { form = f; its = List·Memᴰ·head refl; stack = refl; pc = refl }
   acted (increments f) t = record { form = f; its = List·Memᴰ·head refl; stack = refl; pc = refl }

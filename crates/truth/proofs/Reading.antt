@@ -4,7 +4,7 @@ use Prim.Native.Nat.{ℕ, _+_}
 use mathlib.Core.Path.{_≡_, refl, _∙_, ap}
 use mathlib.Core.Bool.{Bool, true, false}
 use mathlib.Core.List.{List}
-use lib.Dec.{T, ltb}
+use lib.Dec.{T, eqb, ltb}
 use lib.ListN.{length}
 use Rattle.basics.specs.Bytes.{byteAt, u16At}
 use Rattle.basics.specs.Choice.{pick, between}
@@ -17,8 +17,8 @@ use Rattle.descriptors.specs.Lenient.{closingAt}
 use Rattle.descriptors.proofs.Agree.{lenient-agrees}
 use Rattle.effects.specs.Agreement.{takenBy, Details}
 use Rattle.effects.specs.Lookup.{Known, missing, known, Lookup}
-use Rattle.effects.specs.Rows.{Row, unmodelled, opaque, aload, aloadOf, carries, keeps, gets, calls}
-use Rattle.walk.specs.Walk.{notModelled, cut, Marks, Push, blanks, load, carried, unread, Effect, fails, does, getting, calling, effectBy, made, applied}
+use Rattle.effects.specs.Rows.{Row, unmodelled, opaque, aload, aloadOf, carries, keeps, gets, calls, puts, makes}
+use Rattle.walk.specs.Walk.{notModelled, cut, Marks, Push, blanks, load, carried, unread, Effect, fails, does, getting, putting, making, calling, effectBy, made, applied}
 use Rattle.truth.specs.Condition.{Described}
 use Rattle.walk.proofs.Step.{refused-not-made}
 
@@ -32,6 +32,8 @@ pushFor pool code pc (carries taken places) = carried places
 pushFor pool code pc keeps = blanks 0
 pushFor pool code pc (gets taken) = blanks (citedAt pool code pc .field)
 pushFor pool code pc (calls taken) = blanks (citedAt pool code pc .gives)
+pushFor pool code pc (puts taken) = blanks 0
+pushFor pool code pc makes = blanks 1
 
 module _ (lookup : Lookup) (pool : Pool) (code : List ℕ) (pc : ℕ) (told : Described lookup pool code pc) where
   abbrev cited : Cited
@@ -94,6 +96,25 @@ module _ (lookup : Lookup) (pool : Pool) (code : List ℕ) (pc : ℕ) (told : De
         by-known missing h q = refused-not-made q
         by-known (known d) h q = rw (parameter-slots t d h, return-slots t d h) at q
 
+    putting-makes :
+        (taken : ℕ) → T (between 178 181 (byteAt code pc)) → Makes (putting taken (lookup 0 index)) →
+        Makes (does (taken + cited .field) (blanks 0))
+    putting-makes taken t e = by-known (lookup 0 index) refl e
+      where
+        by-known :
+            (k : Known) → lookup 0 index ≡ k → Makes (putting taken k) → Makes (does (taken + cited .field) (blanks 0))
+        by-known missing h q = refused-not-made q
+        by-known (known d) h q = rw (field-slots t d h) at q
+
+    making-makes : (dimensions : ℕ) → Makes (making dimensions) → Makes (does dimensions (blanks 1))
+    making-makes dimensions e = by-test (eqb dimensions 0) e
+      where
+        by-test :
+            (none : Bool) → Makes (pick none (fails notModelled) (does dimensions (blanks 1))) →
+            Makes (does dimensions (blanks 1))
+        by-test true q = refused-not-made q
+        by-test false q = q
+
     -- the effect of a row that is completed
     pub effect-read :
         (row : Row) → Details row (keyAt code pc) → Makes (effectBy lookup code pc row) →
@@ -108,3 +129,7 @@ module _ (lookup : Lookup) (pool : Pool) (code : List ℕ) (pc : ℕ) (told : De
         getting-makes taken details (uncut-makes (pc + 2) (getting taken (lookup 0 index)) e)
     effect-read (calls taken) details e =
         calling-makes taken details (uncut-makes (pc + 2) (calling taken (lookup 1 index)) e)
+    effect-read (puts taken) details e =
+        putting-makes taken details (uncut-makes (pc + 2) (putting taken (lookup 0 index)) e)
+    effect-read makes details e =
+        making-makes (byteAt code (pc + 3)) (uncut-makes (pc + 3) (making (byteAt code (pc + 3))) e)

@@ -18,7 +18,7 @@ use Rattle.bytecode.specs.declared.Measure.the-variants.{Length}
 use Rattle.bytecode.proofs.Measuring.{fits}
 use Rattle.lengths.proofs.Agree.{jvms-length}
 use Rattle.effects.specs.Agreement.{isModelled, hasEffect, takenBy, Pushed, FormAgrees, formsOf, hasForm, EffectAgrees}
-use Rattle.effects.specs.Rows.{Row, unmodelled, opaque, aload, aloadOf, carries, keeps, gets, calls}
+use Rattle.effects.specs.Rows.{Row, unmodelled, opaque, aload, aloadOf, carries, keeps, gets, calls, puts, makes}
 use Rattle.walk.specs.Walk.{blanks, effectBy, made, applied}
 use Rattle.truth.specs.Condition.{InBlock, after, Described}
 use Rattle.truth.specs.Relation.{Setting, own, Speaks, Given}
@@ -42,6 +42,8 @@ sort-of (carries taken places) = effective tt tt
 sort-of keeps = keeping
 sort-of (gets taken) = effective tt tt
 sort-of (calls taken) = effective tt tt
+sort-of (puts taken) = effective tt tt
+sort-of makes = effective tt tt
 
 module _
     {A Val : Type 0} (s : Setting A Val) (given : Given s) (st : State Val) (list : List A) (a : Above s list (st .stack)) where

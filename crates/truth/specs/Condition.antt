@@ -1,4 +1,5 @@
 -- Condition 3 of the tender, whole, over any length rule and any list of handlers; the one of a report is an instance (`Condition3`).
+-- It is said of a walk in either model, so that "demand 3 holds for both" (document 02, request 1): one text, one theorem.
 -- proofs/Condition.antt has the proof. A report lists no handlers, so it does not cover their entries: an exception handler
 -- that begins inside the block enters it too (document 02, request 8).
 -- Assumes nothing.
@@ -21,7 +22,8 @@ use Rattle.leader.specs.declared.Scan.the-variants.{Leader}
 use Rattle.leaders.specs.Leader.{Reached}
 use Rattle.effects.specs.Depth.{depthOf, at}
 use Rattle.effects.specs.Lookup.{Lookup, lookupIn, known}
-use Rattle.walk.specs.Room.{blockWalk, answerOf, cellsOf}
+use Rattle.effects.specs.declared.Model.{Model}
+use Rattle.walk.specs.Room.{blockWalkIn, answerOf, cellsOf}
 use Rattle.walk.specs.declared.Walk.the-variants.{Done}
 use Rattle.truth.specs.Translation.{since, TrueTranslation}
 
@@ -41,6 +43,8 @@ pub record Described (lookup : Lookup) (pool : Pool) (code : List ℕ) (pc : ℕ
 
 -- the parts of a case, and what `block_leader` and `simulate_block` answer of them
 pub record Findings : Type 0 where
+  -- the model of the walk
+  pub model : Model
   pub code : List ℕ
   pub members : List ℕ
   pub memberCount : ℕ
@@ -63,8 +67,11 @@ module _ (rule : LengthRule) (handlers : List ℕ) where
     pub inside : f .fault < length (f .code)
     -- "the block walk succeeds"
     pub room : ℕ
-    pub walked : answerOf (blockWalk (f .code) (f .members) (f .memberCount) (f .leader) (f .fault) room) ≡ Done (f .height) (f .count)
-    pub left : f .stack ≡ cellsOf room (blockWalk (f .code) (f .members) (f .memberCount) (f .leader) (f .fault) room)
+    pub walked :
+        answerOf (blockWalkIn (f .model) (f .code) (f .members) (f .memberCount) (f .leader) (f .fault) room)
+        ≡ Done (f .height) (f .count)
+    pub left :
+        f .stack ≡ cellsOf room (blockWalkIn (f .model) (f .code) (f .members) (f .memberCount) (f .leader) (f .fault) room)
     -- "the descriptors of walk and fault are well formed"; "demand 3 loses its premise of one parenthesis" (document 02, request 2)
     pub described :
         (pc : ℕ) → InBlock (f .code) (f .leader) pc → pc ≤ f .fault →

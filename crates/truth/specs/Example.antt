@@ -1,23 +1,38 @@
--- Condition 3 at work on one block, so that its premises are seen to be met: aload_0, dup, getfield J, pop2, aload_1, astore_0,
--- aload_1, invokestatic (La)V;)J, pop2, aload_1, and the fault, invokevirtual (La)V;)J. The cause is local 0 as loaded at 0, though
--- a store to local 0 lies between, and though a `)` and a V stand in the name of a parameter's class.
+-- Condition 3 at work on one block in each model, so that its premises are seen to be met.
 -- Assumes nothing.
 use Prim.Native.Nat.{ℕ}
 use mathlib.Core.Path.{_≡_}
 use mathlib.Core.List.{List, [], _∷_}
 use Rattle.jvms.specs.Descriptor.{long, base, class, typed}
 use Rattle.jvms.specs.Machine.{Pool, target}
+use Rattle.effects.specs.declared.Model.the-variants.{Document, Full}
+use Rattle.walk.specs.Room.{blockWalk, answerOf}
+use Rattle.walk.specs.declared.Walk.the-variants.{Failed}
 use Rattle.truth.specs.Condition.{Findings, Premises}
 use Rattle.truth.specs.Translation.{since, HeldWhen}
 
+-- what both cite. 1: field A.f J; 2: method A.m (La)V;)J
+abbrev pub members : List ℕ
+members =
+    1 ∷ 0 ∷ 1 ∷ 65 ∷ 1 ∷ 102 ∷ 1 ∷ 74
+    ∷ 2 ∷ 1 ∷ 1 ∷ 65 ∷ 1 ∷ 109 ∷ 8 ∷ 40 ∷ 76 ∷ 97 ∷ 41 ∷ 86 ∷ 59 ∷ 41 ∷ 74 ∷ []
+
+abbrev pub pool : Pool
+pool =
+    record {
+      field = λ index. base long;
+      method = λ index. record { parameters = class (97 ∷ 41 ∷ 86 ∷ []) ∷ []; result = typed (base long) };
+    }
+
+-- Document 01's model: aload_0, dup, getfield J, pop2, aload_1, astore_0, aload_1, invokestatic (La)V;)J, pop2, aload_1, and the
+-- fault, invokevirtual (La)V;)J. The cause is local 0 as loaded at 0, though a store to local 0 lies between, and though a `)` and a
+-- V stand in the name of a parameter's class.
 abbrev pub worked : Findings
 worked =
     record {
+      model = Document;
       code = 0x2a ∷ 0x59 ∷ 0xb4 ∷ 0 ∷ 1 ∷ 0x58 ∷ 0x2b ∷ 0x4b ∷ 0x2b ∷ 0xb8 ∷ 0 ∷ 2 ∷ 0x58 ∷ 0x2b ∷ 0xb6 ∷ 0 ∷ 2 ∷ 0xb1 ∷ [];
-      -- 1: field A.f J; 2: method A.m (La)V;)J
-      members =
-          1 ∷ 0 ∷ 1 ∷ 65 ∷ 1 ∷ 102 ∷ 1 ∷ 74
-          ∷ 2 ∷ 1 ∷ 1 ∷ 65 ∷ 1 ∷ 109 ∷ 8 ∷ 40 ∷ 76 ∷ 97 ∷ 41 ∷ 86 ∷ 59 ∷ 41 ∷ 74 ∷ [];
+      members = members;
       memberCount = 2;
       fault = 14;
       leader = 0;
@@ -27,19 +42,34 @@ worked =
       stack = 1 ∷ 3330 ∷ 0 ∷ 0 ∷ [];
     }
 
-abbrev pub pool : Pool
-pool =
+-- The full model, on a block "that holds arithmetic, a store and a dup form" (document 02, request 1), Java's
+-- `a.f = (a = b).f = v * v`: aload_0, aload_1, dup, astore_0, lload_2, lload_2, lmul, dup2_x1, putfield J, and the fault, putfield J.
+-- The cause is local 0 as loaded at 0, though a store to local 0 lies between.
+abbrev pub fullWorked : Findings
+fullWorked =
     record {
-      field = λ index. base long;
-      method = λ index. record { parameters = class (97 ∷ 41 ∷ 86 ∷ []) ∷ []; result = typed (base long) };
+      model = Full;
+      code = 0x2a ∷ 0x2b ∷ 0x59 ∷ 0x4b ∷ 0x20 ∷ 0x20 ∷ 0x69 ∷ 0x5d ∷ 0xb5 ∷ 0 ∷ 1 ∷ 0xb5 ∷ 0 ∷ 1 ∷ 0xb1 ∷ [];
+      members = members;
+      memberCount = 2;
+      fault = 11;
+      leader = 0;
+      height = 3;
+      count = 9;
+      -- the load of local 0 at 0, and the product under the second field to be written
+      stack = 1 ∷ 0 ∷ 0 ∷ 0 ∷ 0 ∷ 0 ∷ [];
     }
 
-abbrev pub PremisesMet : Type 0
-PremisesMet = Premises worked pool
+abbrev pub PremisesMet : Findings → Type 0
+PremisesMet f = Premises f pool
 
 -- whatever the values, what would be dereferenced is what local 0 held when the instruction at 0 ran
-abbrev pub NamedRightly : Type 1
-NamedRightly =
+abbrev pub NamedRightly : Findings → Type 1
+NamedRightly f =
     (Val : Type 0) (opaque : ℕ → ℕ → Val) (entering : List Val) (locals : ℕ → Val) →
-    (v : Val) × (target pool (worked .code) (since pool (worked .code) opaque 0 entering locals 10) ≡ v ∷ [])
-    × HeldWhen (since pool (worked .code) opaque 0 entering locals) 10 0 0 v
+    (v : Val) × (target pool (f .code) (since pool (f .code) opaque 0 entering locals (f .count)) ≡ v ∷ [])
+    × HeldWhen (since pool (f .code) opaque 0 entering locals) (f .count) 0 0 v
+
+-- document 01's model has no name for the second: its walk fails at the product
+abbrev pub BeyondDocument : Type 0
+BeyondDocument = answerOf (blockWalk (fullWorked .code) members 2 0 11 6) ≡ Failed 6

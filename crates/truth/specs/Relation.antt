@@ -1,5 +1,5 @@
 -- Condition 3 over any way to write slots, any table of rows that agrees with JVMS, and anything that a slot may say of a
--- value. proofs/Walked.antt has its proof. Document 01's walk is one case of it (proofs/Condition.antt).
+-- value. proofs/Walked.antt has its proof. The walk in each model is one case of it (proofs/Condition.antt).
 -- Assumes nothing.
 use Prim.Native.Nat.{ℕ, _+_, _≤_, _<_}
 use mathlib.Core.Path.{_≡_}
@@ -43,7 +43,7 @@ module _ {A Val : Type 0} (s : Setting A Val) where
   abbrev pub ownBy : State Val → Entry → ℕ → Val
   ownBy st unlisted = s .opaque (st .pc)
   ownBy st (does f) = s .opaque (st .pc)
-  ownBy st (eitherOf f g) = s .opaque (st .pc)
+  ownBy st (eitherOf f others) = s .opaque (st .pc)
   ownBy st (loads l f) = λ k. st .locals (localAt (s .code) (st .pc) l + k)
   ownBy st (stores l f) = s .opaque (st .pc)
   ownBy st (increments f) = s .opaque (st .pc)
