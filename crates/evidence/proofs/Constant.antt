@@ -27,7 +27,7 @@ use Rattle.casefile.specs.Parts.{partsOf}
 use Rattle.casefile.specs.Whole.{tablesAt, placesIn, caseOf}
 use Rattle.effects.specs.Depth.{ruleOf, depthOf}
 use Rattle.effects.specs.Rows.{rowOf}
-use Rattle.walk.specs.Room.{completedFrom, completed, blockWalk}
+use Rattle.walk.specs.Room.{completedFrom, completed, blockWalkIn}
 use Rattle.walk.specs.Walk.{step, walkFrom, walk}
 use Rattle.fault.specs.Decoding.{actionOf, decoded}
 use Rattle.search.specs.Search.{firstMatch}
@@ -36,15 +36,15 @@ use Rattle.action.specs.Action.{actionText}
 use Rattle.message.specs.Message.{causeText, messageText}
 use Rattle.answer.specs.Answer.{numbered}
 use Rattle.locals.specs.Name.{isInstance}
-use Rattle.report.specs.Report.{messageOf, saidOf, reportOf, reportedIn}
+use Rattle.report.specs.Report.{messageOf, saidIn, reportIn, reportedBy}
 use Rattle.trace.specs.Trace.{slotFrom}
 use Rattle.answer.specs.declared.Report.the-variants.{Message, Broken}
 use Rattle.evidence.specs.Constant.{reading, throwing, readingNull, blank, SmallCases, Lent, Always, Program, Meets, numberOf, NoConstant}
 
 pub small-cases : SmallCases
-unfolding reportOf reportedIn caseOf placesIn tablesAt textAt numberAt numberFrom runBy membersThen recordsThen partsOf
-    saidOf decoded depthOf ruleOf actionOf blockLeader instructions scanFrom scanCount leadersOf leadersAt branchOf
-    answered greatest upTo lengthOf documentLength within bytesOf formatOf blockWalk completed completedFrom walk walkFrom step
+unfolding reportIn reportedBy caseOf placesIn tablesAt textAt numberAt numberFrom runBy membersThen recordsThen partsOf
+    saidIn decoded depthOf ruleOf actionOf blockLeader instructions scanFrom scanCount leadersOf leadersAt branchOf
+    answered greatest upTo lengthOf documentLength within bytesOf formatOf blockWalkIn completed completedFrom walk walkFrom step
     rowOf fixedLength slotFrom messageOf messageText actionText causeText localName recordsIn firstMatch
     signatureParameter firstFrom firstIn numberedName decimal digits isInstance over
 small-cases =

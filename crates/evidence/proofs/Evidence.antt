@@ -28,15 +28,16 @@ use Rattle.fault.specs.declared.Action.{Action}
 use Rattle.fault.specs.declared.Fault.the-variants.{Failed, Nothing}
 use Rattle.message.specs.Message.{causeText, messageText}
 use Rattle.answer.specs.Answer.{Said, silent, roomless, said, needed, answerBy, outputBy}
-use Rattle.report.specs.Report.{messageOf, saidOf, reportOf, reportedIn}
+use Rattle.report.specs.Report.{messageOf, saidIn, reportIn, reportedBy}
+use Rattle.report.specs.declared.Manner.{Manner}
 use Rattle.answer.specs.declared.Report.the-variants.{Message, NoOutput}
 use Rattle.truth.specs.Condition.{Findings, Premises}
 use Rattle.truth.specs.Translation.{since}
 use Rattle.truth.proofs.Cause.{cause-true}
 use Rattle.truth.proofs.Condition.{condition-3}
 use Rattle.evidence.specs.Evidence.{WellDescribed, Proven, Evidence, NameIsEvidence, Reported, ReportIsEvidence}
-use Rattle.evidence.specs.Kind.{Caused}
-use Rattle.evidence.proofs.Kind.{kind-two}
+use Rattle.evidence.specs.Kind.{CausedIn}
+use Rattle.evidence.proofs.Kind.{kind-two-in}
 
 -- ---- a fault that is decoded lies in the code
 
@@ -72,12 +73,13 @@ shown-at room slots k below =
 
 -- ---- the parts of a case
 
-module _ (p : Parts) (pool : Pool) (room : ℕ) (message : List ℕ) (scan block : ℕ) (bytes : AreBytes (p .code))
-    (described : WellDescribed p pool) (c : Caused p room message scan block) where
+module _ (manner : Manner) (p : Parts) (pool : Pool) (room : ℕ) (message : List ℕ) (scan block : ℕ) (bytes : AreBytes (p .code))
+    (described : WellDescribed p pool) (c : CausedIn manner p room message scan block) where
   -- what condition 3 is asked of
   abbrev asked : Findings
   asked =
       record {
+        model = manner .model;
         code = p .code;
         members = p .members;
         memberCount = p .memberCount;
@@ -141,8 +143,9 @@ module _ (p : Parts) (pool : Pool) (room : ℕ) (message : List ℕ) (scan block
       }
 
 pub name-is-evidence : NameIsEvidence
-name-is-evidence p pool room message scan block bytes described told =
-    is-evidence p pool room message scan block bytes described (kind-two .only p room message scan block told)
+name-is-evidence manner p pool room message scan block bytes described told =
+    is-evidence manner p pool room message scan block bytes described
+    (kind-two-in manner .only p room message scan block told)
 
 -- ---- a whole case
 
@@ -152,7 +155,7 @@ bytes-before (suc n) [] are i = lit< tt
 bytes-before (suc n) (x ∷ bytes) are zero = are 0
 bytes-before (suc n) (x ∷ bytes) are (suc i) = bytes-before n bytes (λ j. are (suc j)) i
 
-module _ (bytes : List ℕ) (places : Places) (pool : Pool) (room : ℕ) (out : List ℕ) (size scan block : ℕ)
+module _ (manner : Manner) (bytes : List ℕ) (places : Places) (pool : Pool) (room : ℕ) (out : List ℕ) (size scan block : ℕ)
     (are : AreBytes bytes) (reads : caseOf bytes ≡ cases.Parts places)
     (described : WellDescribed (partsOf bytes places) pool) where
   abbrev p : Parts
@@ -162,15 +165,15 @@ module _ (bytes : List ℕ) (places : Places) (pool : Pool) (room : ℕ) (out : 
   unfolding partsOf
   code-bytes = bytes-before (places .«code_length») (drop (places .code) bytes) (bytes-behind bytes (places .code) are)
 
-  left-is : (told : Said) → saidOf p room ≡ told → reportedIn bytes room out ≡ outputBy told out
-  unfolding reportedIn
+  left-is : (told : Said) → saidIn manner p room ≡ told → reportedBy manner bytes room out ≡ outputBy told out
+  unfolding reportedBy
   left-is told e = rw (reads, e)
 
   by-room :
-      (message : List ℕ) (kind scanned count : ℕ) → saidOf p room ≡ said message kind scanned count →
+      (message : List ℕ) (kind scanned count : ℕ) → saidIn manner p room ≡ said message kind scanned count →
       (b : Bool) → leb (length message) (length out) ≡ b →
       pick b (Message (length message) kind scanned count) (NoOutput (needed message)) ≡ Message size 2 scan block →
-      Reported bytes places pool room out size scan block
+      Reported manner bytes places pool room out size scan block
   by-room message kind scanned count e true t answer =
       let sized : length message ≡ size = cc in
       let two : kind ≡ 2 = cc in
@@ -181,24 +184,24 @@ module _ (bytes : List ℕ) (places : Places) (pool : Pool) (room : ℕ) (out : 
         sized = sym sized;
         written = left-is (said message kind scanned count) e ∙ ap (λ (b : Bool). pick b (over message out) out) t;
         evidence =
-            name-is-evidence p pool room message scan block code-bytes described
+            name-is-evidence manner p pool room message scan block code-bytes described
             (e ∙ rw (two, scans, counts));
       }
   by-room message kind scanned count e false t answer = let z : _≡_ {A = ℕ} 0 1 = cc in absurd (omega arith)
 
   by-said :
-      (told : Said) → saidOf p room ≡ told → answerBy told (length out) ≡ Message size 2 scan block →
-      Reported bytes places pool room out size scan block
+      (told : Said) → saidIn manner p room ≡ told → answerBy told (length out) ≡ Message size 2 scan block →
+      Reported manner bytes places pool room out size scan block
   by-said silent e answer = let z : _≡_ {A = ℕ} 0 1 = cc in absurd (omega arith)
   by-said (roomless index) e answer = let z : _≡_ {A = ℕ} 0 1 = cc in absurd (omega arith)
   by-said (said message kind scanned count) e answer =
       by-room message kind scanned count e (leb (length message) (length out)) refl answer
 
   is-reported :
-      reportOf bytes room (length out) ≡ Message size 2 scan block →
-      Reported bytes places pool room out size scan block
-  unfolding reportOf
-  is-reported answer = by-said (saidOf p room) refl (rw reads at answer)
+      reportIn manner bytes room (length out) ≡ Message size 2 scan block →
+      Reported manner bytes places pool room out size scan block
+  unfolding reportIn
+  is-reported answer = by-said (saidIn manner p room) refl (rw reads at answer)
 
 pub report-is-evidence : ReportIsEvidence
 report-is-evidence = is-reported

@@ -14,7 +14,7 @@ use Rattle.leader.specs.declared.Scan.{Scan}
 use Rattle.leader.specs.declared.Scan.the-variants.{Leader, Unmeasured}
 use Rattle.casefile.specs.Parts.{Parts}
 use Rattle.cell.specs.Cell.{unpacked}
-use Rattle.walk.specs.Room.{Roomed, lacks, fits, blockWalk}
+use Rattle.walk.specs.Room.{Roomed, lacks, fits, blockWalkIn}
 use Rattle.walk.specs.Walk.{done, failed}
 use Rattle.cell.specs.declared.Slot.{Slot}
 use Rattle.cell.specs.declared.Slot.the-variants.{Other, Loaded}
@@ -25,15 +25,16 @@ use Rattle.fault.specs.declared.Fault.the-variants.{Failed, Nothing}
 use Rattle.action.specs.Action.{actionText}
 use Rattle.message.specs.Message.{causeText, messageText}
 use Rattle.answer.specs.Answer.{kindOf, Said, said}
-use Rattle.report.specs.Report.{scanOf, tracedIn, messageOf, saidBy, saidAt, saidOf}
+use Rattle.report.specs.Report.{documentManner, scanOf, tracedIn, messageOf, saidBy, saidAt, saidIn}
+use Rattle.report.specs.declared.Manner.{Manner}
 use Rattle.trace.specs.Trace.{slotFrom, traceOf, tracedBy}
 use Rattle.trace.specs.declared.Trace.{Trace}
 use Rattle.trace.specs.declared.Trace.the-variants.{NoRoom, Traced}
-use Rattle.evidence.specs.Kind.{Caused, KindTwo, ActionAlone, OneOrTwo}
+use Rattle.evidence.specs.Kind.{CausedIn, KindTwoIn, KindTwo, ActionAlone, OneOrTwoIn, OneOrTwo}
 
 -- ---- kind 2 has a cause: what is said is taken apart, from the fault to the slot
 
-module _ (p : Parts) (room : ℕ) (message : List ℕ) (scan block : ℕ) where
+module _ (manner : Manner) (p : Parts) (room : ℕ) (message : List ℕ) (scan block : ℕ) where
   abbrev Two : Said → Type 0
   Two told = told ≡ said message 2 scan block
 
@@ -41,13 +42,14 @@ module _ (p : Parts) (room : ℕ) (message : List ℕ) (scan block : ℕ) where
       (decodes : decoded (p .code) (p .members) (p .memberCount) (p .fault) ≡ Failed action depth) where
     module _ (leader scanned : ℕ) (leads : scanOf p ≡ Leader leader scanned) where
       module _ (slots : List ℕ) (count : ℕ)
-          (walks : blockWalk (p .code) (p .members) (p .memberCount) leader (p .fault) room ≡ fits (done slots count)) where
+          (walks :
+          blockWalkIn (manner .model) (p .code) (p .members) (p .memberCount) leader (p .fault) room ≡ fits (done slots count)) where
         abbrev found : Slot
         found = unpacked (getD slots (length slots - 1 - depth) 0)
 
         by-slot :
             (slot : Slot) → found ≡ slot → ltb depth (length slots) ≡ true →
-            Two (said (messageOf p action slot) (kindOf slot) scanned count) → Caused p room message scan block
+            Two (said (messageOf p action slot) (kindOf slot) scanned count) → CausedIn manner p room message scan block
         by-slot Other e high told = let z : _≡_ {A = ℕ} 1 2 = cc in absurd (omega arith)
         by-slot (Loaded load local) e high told =
             let words : messageOf p action (Loaded load local) ≡ message = cc in
@@ -71,13 +73,13 @@ module _ (p : Parts) (room : ℕ) (message : List ℕ) (scan block : ℕ) where
         by-height :
             (b : Bool) → ltb depth (length slots) ≡ b →
             Two (said (messageOf p action (pick b found Other)) (kindOf (pick b found Other)) scanned count) →
-            Caused p room message scan block
+            CausedIn manner p room message scan block
         by-height true e told = by-slot found refl e told
         by-height false e told = let z : _≡_ {A = ℕ} 1 2 = cc in absurd (omega arith)
 
       by-walk :
-          (walked : Roomed ℕ) → blockWalk (p .code) (p .members) (p .memberCount) leader (p .fault) room ≡ walked →
-          Two (saidBy p action (traceOf scanned depth walked)) → Caused p room message scan block
+          (walked : Roomed ℕ) → blockWalkIn (manner .model) (p .code) (p .members) (p .memberCount) leader (p .fault) room ≡ walked →
+          Two (saidBy p action (traceOf scanned depth walked)) → CausedIn manner p room message scan block
       unfolding slotFrom
       by-walk (lacks index) e told = let z : _≡_ {A = ℕ} 0 1 = cc in absurd (omega arith)
       by-walk (fits (failed count index reason)) e told = let z : _≡_ {A = ℕ} 1 2 = cc in absurd (omega arith)
@@ -85,32 +87,35 @@ module _ (p : Parts) (room : ℕ) (message : List ℕ) (scan block : ℕ) where
 
     by-scan :
         (x : Scan) → scanOf p ≡ x →
-        Two (saidBy p action (tracedBy (p .code) (p .members) (p .memberCount) (p .fault) depth room x)) →
-        Caused p room message scan block
+        Two (saidBy p action (tracedBy (manner .model) (p .code) (p .members) (p .memberCount) (p .fault) depth room x)) →
+        CausedIn manner p room message scan block
     by-scan (Leader leader scanned) e told =
-        by-walk leader scanned e (blockWalk (p .code) (p .members) (p .memberCount) leader (p .fault) room) refl told
+        by-walk leader scanned e (blockWalkIn (manner .model) (p .code) (p .members) (p .memberCount) leader (p .fault) room) refl told
     by-scan (Unmeasured at scanned) e told = let z : _≡_ {A = ℕ} 1 2 = cc in absurd (omega arith)
 
   by-fault :
-      (fault : Fault) → decoded (p .code) (p .members) (p .memberCount) (p .fault) ≡ fault → Two (saidAt p room fault) →
-      Caused p room message scan block
+      (fault : Fault) → decoded (p .code) (p .members) (p .memberCount) (p .fault) ≡ fault → Two (saidAt manner p room fault) →
+      CausedIn manner p room message scan block
   by-fault Nothing e told = let z : _≡_ {A = ℕ} 0 1 = cc in absurd (omega arith)
   by-fault (Failed action depth) e told = by-scan action depth e (scanOf p) refl told
 
-  has-cause : Two (saidOf p room) → Caused p room message scan block
-  unfolding saidOf
+  has-cause : Two (saidIn manner p room) → CausedIn manner p room message scan block
+  unfolding saidIn
   has-cause told = by-fault (decoded (p .code) (p .members) (p .memberCount) (p .fault)) refl told
 
   -- ---- a cause makes kind 2
 
-  is-two : Caused p room message scan block → Two (saidOf p room)
-  unfolding saidOf slotFrom
+  is-two : CausedIn manner p room message scan block → Two (saidIn manner p room)
+  unfolding saidIn slotFrom
   is-two c =
       rw (c .decodes, c .leads, c .walks, lt-ltb (c .depth) (length (c .slots)) (omega (arith, c .high)), c .slot)
       (ap (λ (text : List ℕ). said text 2 scan block) (sym (c .words)))
 
+pub kind-two-in : (manner : Manner) → KindTwoIn manner
+kind-two-in manner = record { only = has-cause manner; always = is-two manner }
+
 pub kind-two : KindTwo
-kind-two = record { only = has-cause; always = is-two }
+kind-two = kind-two-in documentManner
 
 -- ---- no other kind
 
@@ -119,7 +124,7 @@ pub plain : (p : Parts) (action : Action) → messageOf p action Other ≡ actio
 unfolding messageOf messageText causeText
 plain p action = append-nil (actionText (p .members) (p .memberCount) action)
 
-module _ (p : Parts) (room : ℕ) (message : List ℕ) (kind scan block : ℕ) where
+module _ (manner : Manner) (p : Parts) (room : ℕ) (message : List ℕ) (kind scan block : ℕ) where
   abbrev Kinds : Type 0
   Kinds = ((kind ≡ 1) × ActionAlone p message) ⊎ (kind ≡ 2)
 
@@ -140,12 +145,15 @@ module _ (p : Parts) (room : ℕ) (message : List ℕ) (kind scan block : ℕ) w
 
   by-decoding :
       (fault : Fault) → decoded (p .code) (p .members) (p .memberCount) (p .fault) ≡ fault →
-      saidAt p room fault ≡ said message kind scan block → Kinds
+      saidAt manner p room fault ≡ said message kind scan block → Kinds
   by-decoding Nothing e told = let z : _≡_ {A = ℕ} 0 1 = cc in absurd (omega arith)
   by-decoding (Failed action depth) e told =
-      by-trace action depth e (tracedIn p depth room) told
+      by-trace action depth e (tracedIn (manner .model) p depth room) told
+
+pub one-or-two-in : (manner : Manner) → OneOrTwoIn manner
+unfolding saidIn
+one-or-two-in manner p room message kind scan block told =
+    by-decoding manner p room message kind scan block (decoded (p .code) (p .members) (p .memberCount) (p .fault)) refl told
 
 pub one-or-two : OneOrTwo
-unfolding saidOf
-one-or-two p room message kind scan block told =
-    by-decoding p room message kind scan block (decoded (p .code) (p .members) (p .memberCount) (p .fault)) refl told
+one-or-two = one-or-two-in documentManner

@@ -17,38 +17,39 @@ use Rattle.fault.specs.declared.Action.{Action}
 use Rattle.fault.specs.declared.Fault.the-variants.{Failed}
 use Rattle.action.specs.Action.{actionText}
 use Rattle.answer.specs.Answer.{said}
-use Rattle.report.specs.Report.{scanOf, saidFrom, saidOf}
+use Rattle.report.specs.Report.{scanOf, saidFrom, saidIn}
+use Rattle.report.specs.declared.Manner.{Manner}
 use Rattle.evidence.specs.Reserved.{documentSaid, ReservedReport}
-use Rattle.evidence.proofs.Kind.{kind-two, plain}
+use Rattle.evidence.proofs.Kind.{kind-two-in, plain}
 
-module _ (p : Parts) (room : ℕ) where
-  said-alike : scanOf p ≡ blockLeader documentLength [] (p .code) (p .fault) → saidOf p room ≡ documentSaid p room
-  unfolding saidOf
+module _ (manner : Manner) (p : Parts) (room : ℕ) where
+  said-alike : scanOf p ≡ blockLeader documentLength [] (p .code) (p .fault) → saidIn manner p room ≡ documentSaid manner p room
+  unfolding saidIn
   said-alike same =
-      ap (λ (x : Scan). saidFrom x p room (decoded (p .code) (p .members) (p .memberCount) (p .fault))) same
+      ap (λ (x : Scan). saidFrom manner x p room (decoded (p .code) (p .members) (p .memberCount) (p .fault))) same
 
   action-alone :
       (count pc : ℕ) →
       Arrived length-rule (p .code) count pc → 202 ≤ byteAt (p .code) pc → (action : Action) (depth : ℕ) →
       decoded (p .code) (p .members) (p .memberCount) (p .fault) ≡ Failed action depth →
-      saidOf p room ≡ said (actionText (p .members) (p .memberCount) action) 1 count 0
-  unfolding saidOf
+      saidIn manner p room ≡ said (actionText (p .members) (p .memberCount) action) 1 count 0
+  unfolding saidIn
   action-alone count pc arrived high action depth decodes =
       rw (decodes, reserved-scan .stops [] (p .code) (p .fault) count pc arrived high)
       (ap (λ (text : List ℕ). said text 1 count 0) (plain p action))
 
   same-name :
-      (message : List ℕ) (scan block : ℕ) → saidOf p room ≡ said message 2 scan block →
-      documentSaid p room ≡ said message 2 scan block
+      (message : List ℕ) (scan block : ℕ) → saidIn manner p room ≡ said message 2 scan block →
+      documentSaid manner p room ≡ said message 2 scan block
   same-name message scan block told =
-      let c = kind-two .only p room message scan block told in
+      let c = kind-two-in manner .only p room message scan block told in
       let leads = led-by-document .sameLeader length-rule [] (p .code) (p .fault) (c .leader) scan (c .leads) in
       sym (said-alike (c .leads ∙ sym leads)) ∙ told
 
-pub reserved-report : ReservedReport
-reserved-report =
+pub reserved-report : (manner : Manner) → ReservedReport manner
+reserved-report manner =
     record {
-      unmoved = λ p room none. said-alike p room (reserved-scan .unmoved [] (p .code) (p .fault) none);
-      actionAlone = action-alone;
-      sameName = same-name;
+      unmoved = λ p room none. said-alike manner p room (reserved-scan .unmoved [] (p .code) (p .fault) none);
+      actionAlone = action-alone manner;
+      sameName = same-name manner;
     }

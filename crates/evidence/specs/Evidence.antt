@@ -1,6 +1,7 @@
 -- "A name must be evidence" (tender, condition 3), of the report itself: where the message names a local, the value that the
 -- faulting instruction would dereference is the one that this local held when it was loaded. So where that value is null, the
--- local was null, as the message says. proofs/Evidence.antt has its proof.
+-- local was null, as the message says. Of a report in any manner: "demand 3 holds for both" models (document 02, request 1).
+-- proofs/Evidence.antt has its proof.
 -- As condition 3, it does not cover handler entries: an exception handler that begins inside the block enters it too.
 -- Assumes nothing.
 use Prim.Native.Nat.{ℕ, _≤_, _<_}
@@ -28,7 +29,8 @@ use Rattle.locals.specs.Name.{localName}
 use Rattle.action.specs.Action.{actionText}
 use Rattle.answer.specs.Answer.{said}
 use Rattle.locals.specs.Name.{isInstance}
-use Rattle.report.specs.Report.{scanOf, saidOf, reportOf, reportedIn}
+use Rattle.report.specs.Report.{scanOf, saidIn, reportIn, reportedBy}
+use Rattle.report.specs.declared.Manner.{Manner}
 use Rattle.answer.specs.declared.Report.the-variants.{Message}
 use Rattle.truth.specs.Condition.{InBlock, Described}
 use Rattle.truth.specs.Translation.{since, HeldWhen}
@@ -78,23 +80,24 @@ pub record Evidence (p : Parts) (pool : Pool) (message : List ℕ) (scan block :
 -- of the parts of a case, where the kind is 2
 abbrev pub NameIsEvidence : Type 1
 NameIsEvidence =
-    (p : Parts) (pool : Pool) (room : ℕ) (message : List ℕ) (scan block : ℕ) → AreBytes (p .code) → WellDescribed p pool →
-    saidOf p room ≡ said message 2 scan block → Evidence p pool message scan block
+    (manner : Manner) (p : Parts) (pool : Pool) (room : ℕ) (message : List ℕ) (scan block : ℕ) → AreBytes (p .code) →
+    WellDescribed p pool → saidIn manner p room ≡ said message 2 scan block → Evidence p pool message scan block
 
 -- ---- a whole case
 
 -- the message that the output starts with
-pub record Reported (bytes : List ℕ) (places : Places) (pool : Pool) (room : ℕ) (out : List ℕ) (size scan block : ℕ) :
-    Type 1 where
+pub record Reported (manner : Manner) (bytes : List ℕ) (places : Places) (pool : Pool) (room : ℕ) (out : List ℕ)
+    (size scan block : ℕ) : Type 1 where
   pub message : List ℕ
   pub sized : size ≡ length message
-  pub written : reportedIn bytes room out ≡ over message out
+  pub written : reportedBy manner bytes room out ≡ over message out
   pub evidence : Evidence (partsOf bytes places) pool message scan block
 
--- what `build_message` answers and leaves, by its contract: where the kind is 2, the output starts with a message whose name
+-- what `build_message` and `build_message_in` answer and leave, by their contracts: where the kind is 2, the output starts with a message whose name
 -- is evidence
 abbrev pub ReportIsEvidence : Type 1
 ReportIsEvidence =
-    (bytes : List ℕ) (places : Places) (pool : Pool) (room : ℕ) (out : List ℕ) (size scan block : ℕ) → AreBytes bytes →
-    caseOf bytes ≡ cases.Parts places → WellDescribed (partsOf bytes places) pool →
-    reportOf bytes room (length out) ≡ Message size 2 scan block → Reported bytes places pool room out size scan block
+    (manner : Manner) (bytes : List ℕ) (places : Places) (pool : Pool) (room : ℕ) (out : List ℕ) (size scan block : ℕ) →
+    AreBytes bytes → caseOf bytes ≡ cases.Parts places → WellDescribed (partsOf bytes places) pool →
+    reportIn manner bytes room (length out) ≡ Message size 2 scan block →
+    Reported manner bytes places pool room out size scan block

@@ -1,4 +1,5 @@
--- The kind of a message (document 01, "Numbers returned": "1 action, 2 action and cause"), and exactly when it is 2.
+-- The kind of a message (document 01, "Numbers returned": "1 action, 2 action and cause"), and exactly when it is 2. Said of a report in
+-- any manner, and of document 01's.
 -- Assumes nothing.
 use Prim.Native.Nat.{ℕ, _-_, _<_}
 use mathlib.Core.Path.{_≡_}
@@ -8,7 +9,7 @@ use lib.ListN.{length, getD}
 use Rattle.leader.specs.declared.Scan.the-variants.{Leader}
 use Rattle.casefile.specs.Parts.{Parts}
 use Rattle.cell.specs.Cell.{unpacked}
-use Rattle.walk.specs.Room.{fits, blockWalk}
+use Rattle.walk.specs.Room.{fits, blockWalkIn}
 use Rattle.walk.specs.Walk.{done}
 use Rattle.cell.specs.declared.Slot.the-variants.{Loaded}
 use Rattle.fault.specs.Decoding.{decoded}
@@ -16,11 +17,12 @@ use Rattle.fault.specs.declared.Action.{Action}
 use Rattle.fault.specs.declared.Fault.the-variants.{Failed}
 use Rattle.action.specs.Action.{actionText}
 use Rattle.answer.specs.Answer.{said}
-use Rattle.report.specs.Report.{scanOf, messageOf, saidOf}
+use Rattle.report.specs.Report.{documentManner, scanOf, messageOf, saidIn}
+use Rattle.report.specs.declared.Manner.{Manner}
 
 -- "A cause is given exactly when the walk succeeds, its height exceeds the depth, and the slot at that depth from the top is
 -- a load".
-pub record Caused (p : Parts) (room : ℕ) (message : List ℕ) (scan block : ℕ) : Type 0 where
+pub record CausedIn (manner : Manner) (p : Parts) (room : ℕ) (message : List ℕ) (scan block : ℕ) : Type 0 where
   pub action : Action
   pub depth : ℕ
   pub leader : ℕ
@@ -31,7 +33,8 @@ pub record Caused (p : Parts) (room : ℕ) (message : List ℕ) (scan block : �
   pub decodes : decoded (p .code) (p .members) (p .memberCount) (p .fault) ≡ Failed action depth
   pub leads : scanOf p ≡ Leader leader scan
   -- "the walk succeeds"
-  pub walks : blockWalk (p .code) (p .members) (p .memberCount) leader (p .fault) room ≡ fits (done slots block)
+  pub walks :
+      blockWalkIn (manner .model) (p .code) (p .members) (p .memberCount) leader (p .fault) room ≡ fits (done slots block)
   -- "its height exceeds the depth"
   pub high : depth < length slots
   -- "the slot at that depth from the top is a load"
@@ -39,13 +42,13 @@ pub record Caused (p : Parts) (room : ℕ) (message : List ℕ) (scan block : �
   pub words : message ≡ messageOf p action (Loaded load local)
 
 -- in both directions, for the parts of any case and any room
-pub record KindTwo : Type 0 where
+pub record KindTwoIn (manner : Manner) : Type 0 where
   pub only :
-      (p : Parts) (room : ℕ) (message : List ℕ) (scan block : ℕ) → saidOf p room ≡ said message 2 scan block →
-      Caused p room message scan block
+      (p : Parts) (room : ℕ) (message : List ℕ) (scan block : ℕ) → saidIn manner p room ≡ said message 2 scan block →
+      CausedIn manner p room message scan block
   pub always :
-      (p : Parts) (room : ℕ) (message : List ℕ) (scan block : ℕ) → Caused p room message scan block →
-      saidOf p room ≡ said message 2 scan block
+      (p : Parts) (room : ℕ) (message : List ℕ) (scan block : ℕ) → CausedIn manner p room message scan block →
+      saidIn manner p room ≡ said message 2 scan block
 
 -- the message is the fault's action, and nothing more
 pub record ActionAlone (p : Parts) (message : List ℕ) : Type 0 where
@@ -55,7 +58,18 @@ pub record ActionAlone (p : Parts) (message : List ℕ) : Type 0 where
   pub words : message ≡ actionText (p .members) (p .memberCount) action
 
 -- every message is of kind 1, with the action alone, or of kind 2
-abbrev pub OneOrTwo : Type 0
-OneOrTwo =
-    (p : Parts) (room : ℕ) (message : List ℕ) (kind scan block : ℕ) → saidOf p room ≡ said message kind scan block →
+abbrev pub OneOrTwoIn : Manner → Type 0
+OneOrTwoIn manner =
+    (p : Parts) (room : ℕ) (message : List ℕ) (kind scan block : ℕ) → saidIn manner p room ≡ said message kind scan block →
     ((kind ≡ 1) × ActionAlone p message) ⊎ (kind ≡ 2)
+
+-- ---- document 01's manner
+
+abbrev pub Caused : Parts → ℕ → List ℕ → ℕ → ℕ → Type 0
+Caused p room message scan block = CausedIn documentManner p room message scan block
+
+abbrev pub KindTwo : Type 0
+KindTwo = KindTwoIn documentManner
+
+abbrev pub OneOrTwo : Type 0
+OneOrTwo = OneOrTwoIn documentManner

@@ -1,5 +1,5 @@
--- What a reserved byte does to a report (document 02, request 6: "a cause came out of it"), and that it does nothing to any other. What a
--- whole case is answered, and what is left in its output, goes by what is said of its parts (`answerOf`, `outputOf` of crates/report).
+-- What a reserved byte does to a report (document 02, request 6: "a cause came out of it"), and that it does nothing to any other: in any
+-- manner. What a whole case is answered, and what is left in its output, goes by what is said of its parts (`answerOf`, `outputOf` of crates/report).
 -- proofs/Reserved.antt has the proof.
 -- Assumes nothing.
 use Prim.Native.Nat.{ℕ, _≤_}
@@ -17,25 +17,26 @@ use Rattle.fault.specs.declared.Action.{Action}
 use Rattle.fault.specs.declared.Fault.the-variants.{Failed}
 use Rattle.action.specs.Action.{actionText}
 use Rattle.answer.specs.Answer.{Said, said}
-use Rattle.report.specs.Report.{saidFrom, saidOf}
+use Rattle.report.specs.Report.{saidFrom, saidIn}
+use Rattle.report.specs.declared.Manner.{Manner}
 
 -- what is said by document 01's own lengths
-abbrev pub documentSaid : Parts → ℕ → Said
-documentSaid p room =
-    saidFrom (blockLeader documentLength [] (p .code) (p .fault)) p room
+abbrev pub documentSaid : Manner → Parts → ℕ → Said
+documentSaid manner p room =
+    saidFrom manner (blockLeader documentLength [] (p .code) (p .fault)) p room
     (decoded (p .code) (p .members) (p .memberCount) (p .fault))
 
-pub record ReservedReport : Type 0 where
+pub record ReservedReport (manner : Manner) : Type 0 where
   -- where the scan meets none, the report is document 01's
-  pub unmoved : (p : Parts) (room : ℕ) → MeetsNone (p .code) → saidOf p room ≡ documentSaid p room
+  pub unmoved : (p : Parts) (room : ℕ) → MeetsNone (p .code) → saidIn manner p room ≡ documentSaid manner p room
   -- where it meets one, before the fault or behind it, the report is the action alone. The scan count is that of the instructions before
   -- the byte, the block count 0, whatever room there is.
   pub actionAlone :
       (p : Parts) (room count pc : ℕ) →
       Arrived length-rule (p .code) count pc → 202 ≤ byteAt (p .code) pc → (action : Action) (depth : ℕ) →
       decoded (p .code) (p .members) (p .memberCount) (p .fault) ≡ Failed action depth →
-      saidOf p room ≡ said (actionText (p .members) (p .memberCount) action) 1 count 0
+      saidIn manner p room ≡ said (actionText (p .members) (p .memberCount) action) 1 count 0
   -- no name is new: one that is given is document 01's, with message and counts
   pub sameName :
       (p : Parts) (room : ℕ) (message : List ℕ) (scan block : ℕ) →
-      saidOf p room ≡ said message 2 scan block → documentSaid p room ≡ said message 2 scan block
+      saidIn manner p room ≡ said message 2 scan block → documentSaid manner p room ≡ said message 2 scan block
