@@ -154,6 +154,6 @@ fn show_all(names: &[u8]) {
 
 fn main() {
     show_all(
-        b"lengths\nleaders\nwalks\nnames\nlocals\nstrict\nshort\ncases\nlines\nrequests\nsample\nwrong\n",
+        b"lengths\nleaders\nwalks\nfull\nnames\nlocals\nstrict\nshort\ncases\nlines\nrequests\nsample\nwrong\n",
     );
 }
