@@ -5,7 +5,7 @@ use native.Mathlib.Omega.{arith}
 use mathlib.Core.Path.{_≡_, refl, _∙_, sym, ap}
 use mathlib.Core.Bool.{Bool, true, false}
 use mathlib.Core.List.{List, [], _∷_}
-use lib.Dec.{ltb, leb, lit<}
+use lib.Dec.{ltb, lit<}
 use lib.ListN.{length, getD, take, drop, replicate}
 use lib.Seq.{getD-take, take-at}
 use borrow.Author.Tests.{ltb-true}
@@ -17,7 +17,6 @@ use Rattle.casefile.specs.Whole.{caseOf}
 use Rattle.casefile.specs.declared.Case.the-variants as cases
 use Rattle.casefile.specs.declared.Places.{Places}
 use Rattle.cases.proofs.Reading.{bytes-behind}
-use Rattle.text.specs.Writing.{over}
 use Rattle.effects.specs.Depth.{Depth, nowhere, at, ruleOf, depthBy, depthOf}
 use Rattle.effects.specs.Lookup.{lookupIn}
 use Rattle.cell.specs.Cell.{cellOf}
@@ -27,16 +26,16 @@ use Rattle.fault.specs.Decoding.{invokes, actionOf, constructs, failedAt, decod
 use Rattle.fault.specs.declared.Action.{Action}
 use Rattle.fault.specs.declared.Fault.the-variants.{Failed, Nothing}
 use Rattle.message.specs.Message.{causeText, messageText}
-use Rattle.answer.specs.Answer.{Said, silent, roomless, said, needed, answerBy, outputBy}
-use Rattle.report.specs.Report.{messageOf, saidIn, reportIn, reportedBy}
+use Rattle.report.specs.Report.{messageOf, reportIn}
 use Rattle.report.specs.declared.Manner.{Manner}
-use Rattle.answer.specs.declared.Report.the-variants.{Message, NoOutput}
+use Rattle.answer.specs.declared.Report.the-variants.{Message}
 use Rattle.truth.specs.Condition.{Findings, Premises}
 use Rattle.truth.specs.Translation.{since}
 use Rattle.truth.proofs.Cause.{cause-true}
 use Rattle.truth.proofs.Condition.{condition-3}
 use Rattle.evidence.specs.Evidence.{WellDescribed, Proven, Evidence, NameIsEvidence, Reported, ReportIsEvidence}
 use Rattle.evidence.specs.Kind.{CausedIn}
+use Rattle.evidence.proofs.Delivered.{delivers}
 use Rattle.evidence.proofs.Kind.{kind-two-in}
 
 -- ---- a fault that is decoded lies in the code
@@ -165,43 +164,17 @@ module _ (manner : Manner) (bytes : List ℕ) (places : Places) (pool : Pool) (r
   unfolding partsOf
   code-bytes = bytes-before (places .«code_length») (drop (places .code) bytes) (bytes-behind bytes (places .code) are)
 
-  left-is : (told : Said) → saidIn manner p room ≡ told → reportedBy manner bytes room out ≡ outputBy told out
-  unfolding reportedBy
-  left-is told e = rw (reads, e)
-
-  by-room :
-      (message : List ℕ) (kind scanned count : ℕ) → saidIn manner p room ≡ said message kind scanned count →
-      (b : Bool) → leb (length message) (length out) ≡ b →
-      pick b (Message (length message) kind scanned count) (NoOutput (needed message)) ≡ Message size 2 scan block →
-      Reported manner bytes places pool room out size scan block
-  by-room message kind scanned count e true t answer =
-      let sized : length message ≡ size = cc in
-      let two : kind ≡ 2 = cc in
-      let scans : scanned ≡ scan = cc in
-      let counts : count ≡ block = cc in
-      record {
-        message = message;
-        sized = sym sized;
-        written = left-is (said message kind scanned count) e ∙ ap (λ (b : Bool). pick b (over message out) out) t;
-        evidence =
-            name-is-evidence manner p pool room message scan block code-bytes described
-            (e ∙ rw (two, scans, counts));
-      }
-  by-room message kind scanned count e false t answer = let z : _≡_ {A = ℕ} 0 1 = cc in absurd (omega arith)
-
-  by-said :
-      (told : Said) → saidIn manner p room ≡ told → answerBy told (length out) ≡ Message size 2 scan block →
-      Reported manner bytes places pool room out size scan block
-  by-said silent e answer = let z : _≡_ {A = ℕ} 0 1 = cc in absurd (omega arith)
-  by-said (roomless index) e answer = let z : _≡_ {A = ℕ} 0 1 = cc in absurd (omega arith)
-  by-said (said message kind scanned count) e answer =
-      by-room message kind scanned count e (leb (length message) (length out)) refl answer
-
   is-reported :
       reportIn manner bytes room (length out) ≡ Message size 2 scan block →
       Reported manner bytes places pool room out size scan block
-  unfolding reportIn
-  is-reported answer = by-said (saidIn manner p room) refl (rw reads at answer)
+  is-reported answer =
+      let d = delivers manner bytes places reads room out size 2 scan block answer in
+      record {
+        message = d .message;
+        sized = d .sized;
+        written = d .written;
+        evidence = name-is-evidence manner p pool room (d .message) scan block code-bytes described (d .says);
+      }
 
 pub report-is-evidence : ReportIsEvidence
 report-is-evidence = is-reported

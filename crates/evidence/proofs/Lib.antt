@@ -1,4 +1,5 @@
 pub mod Constant
+pub mod Delivered
 pub mod Evidence
 pub mod Example
 pub mod Kind
