@@ -1,0 +1,4 @@
+pub mod Actions
+pub mod Cause
+pub mod Reports
+pub mod Walk
