@@ -25,8 +25,9 @@ use Rattle.casefile.specs.declared.Case.the-variants as cases
 use Rattle.cases.specs.LaidOut.{LaidOut}
 use Rattle.cases.proofs.Laying.{accepted-is-laid-out}
 use Rattle.effects.specs.Lookup.{Lookup, lookupIn}
-use Rattle.effects.specs.Rows.{Row, rowOf}
-use Rattle.walk.specs.Room.{Completed, Roomed, lacks, fits, judged, completed, blockWalk}
+use Rattle.effects.specs.Rows.{Row, rowsOf}
+use Rattle.effects.specs.declared.Model.{Model}
+use Rattle.walk.specs.Room.{Completed, Roomed, lacks, fits, judged, completed, blockWalkIn}
 use Rattle.walk.specs.Walk.{Marks, cells, Outcome, stops, goes, passes, Walked, done, failed, countOf as blockCount, overshot, ended, after, step, walkFrom, walk}
 use Rattle.cell.specs.declared.Slot.{Slot}
 use Rattle.cell.specs.declared.Slot.the-variants.{Other, Loaded}
@@ -34,7 +35,8 @@ use Rattle.fault.specs.Decoding.{decoded}
 use Rattle.fault.specs.declared.Fault.{Fault}
 use Rattle.fault.specs.declared.Fault.the-variants.{Failed, Nothing}
 use Rattle.answer.specs.Answer.{kindOf, Said, silent, roomless, said, needed, answerBy}
-use Rattle.report.specs.Report.{scanOf, tracedIn, messageOf, saidBy, saidAt, saidOf, answerOf, reportOf}
+use Rattle.report.specs.Report.{scanOf, tracedIn, saidBy, saidAt, saidIn, answerOf, reportIn}
+use Rattle.report.specs.declared.Manner.{Manner}
 use Rattle.trace.specs.Trace.{traceOf, tracedBy}
 use Rattle.answer.specs.declared.Report.the-variants.{Message, NoOutput}
 use Rattle.trace.specs.declared.Trace.{Trace}
@@ -116,12 +118,13 @@ judged-within limit room (c ∷ cs) walked small =
     (judged-within limit room cs walked small) tt
 
 walked-within :
-    (code members : List ℕ) (count leader fault room : ℕ) → Within fault (blockWalk code members count leader fault room)
-unfolding blockWalk walk
-walked-within code members count leader fault room =
+    (model : Model) (code members : List ℕ) (count leader fault room : ℕ) →
+    Within fault (blockWalkIn model code members count leader fault room)
+unfolding blockWalkIn walk
+walked-within model code members count leader fault room =
     let lookup = lookupIn members count in
-    judged-within fault room (completed cells rowOf lookup code fault leader) _
-    (omega (arith, walk-within cells rowOf lookup code fault (fault - leader) leader [] 0))
+    judged-within fault room (completed cells (rowsOf model) lookup code fault leader) _
+    (omega (arith, walk-within cells (rowsOf model) lookup code fault (fault - leader) leader [] 0))
 
 -- ---- the report
 
@@ -140,31 +143,32 @@ small-trace scan depth limit (lacks index) few most within = tt
 small-trace scan depth limit (fits (done slots block)) few most within = (few, omega arith)
 small-trace scan depth limit (fits (failed block index reason)) few most within = (few, omega arith)
 
-module _ (p : Parts) (laid : LaidOut p) (room : ℕ) where
-  traced-small : (depth : ℕ) → SmallTrace (tracedIn p depth room)
+module _ (manner : Manner) (p : Parts) (laid : LaidOut p) (room : ℕ) where
+  traced-small : (depth : ℕ) → SmallTrace (tracedIn (manner .model) p depth room)
   traced-small depth = by-scan (scanOf p) (scanned (p .code) (p .fault))
     where
       by-scan :
           (s : Scan) → countOf s ≤ length (p .code) →
-          SmallTrace (tracedBy (p .code) (p .members) (p .memberCount) (p .fault) depth room s)
+          SmallTrace (tracedBy (manner .model) (p .code) (p .members) (p .memberCount) (p .fault) depth room s)
       by-scan (Leader leader scan) few =
-          small-trace scan depth (p .fault) (blockWalk (p .code) (p .members) (p .memberCount) leader (p .fault) room)
+          small-trace scan depth (p .fault)
+          (blockWalkIn (manner .model) (p .code) (p .members) (p .memberCount) leader (p .fault) room)
           (omega (arith, laid .code)) (laid .fault)
-          (walked-within (p .code) (p .members) (p .memberCount) leader (p .fault) room)
+          (walked-within (manner .model) (p .code) (p .members) (p .memberCount) leader (p .fault) room)
       by-scan (Unmeasured at scan) few = (omega (arith, laid .code), lit≤ tt)
 
-  said-small : SmallSaid (saidOf p room)
-  unfolding saidOf
+  said-small : SmallSaid (saidIn manner p room)
+  unfolding saidIn
   said-small = by-fault (decoded (p .code) (p .members) (p .memberCount) (p .fault))
     where
       kind-small : (cause : Slot) → kindOf cause ≤ 2
       kind-small Other = lit≤ tt
       kind-small (Loaded load local) = lit≤ tt
 
-      by-fault : (f : Fault) → SmallSaid (saidAt p room f)
+      by-fault : (f : Fault) → SmallSaid (saidAt manner p room f)
       by-fault Nothing = tt
       by-fault (Failed action depth) =
-          by-trace (tracedIn p depth room) (traced-small depth)
+          by-trace (tracedIn (manner .model) p depth room) (traced-small depth)
         where
           by-trace : (t : Trace) → SmallTrace t → SmallSaid (saidBy p action t)
           by-trace (NoRoom index) small = tt
@@ -177,12 +181,12 @@ small-answer (said message kind scan block) outRoom small =
     chosen Small (leb (length message) outRoom) (Message (length message) kind scan block) (NoOutput (needed message)) small tt
 
 pub counts-small : CountsSmall
-unfolding reportOf
-counts-small bytes are room outRoom = by-case (caseOf bytes) refl
+unfolding reportIn
+counts-small manner bytes are room outRoom = by-case (caseOf bytes) refl
   where
-    by-case : (c : Case) → caseOf bytes ≡ c → Small (answerOf bytes room outRoom c)
+    by-case : (c : Case) → caseOf bytes ≡ c → Small (answerOf manner bytes room outRoom c)
     by-case (cases.Parts places) e =
-        small-answer (saidOf (partsOf bytes places) room) outRoom
-        (said-small (partsOf bytes places) (accepted-is-laid-out bytes are places e .0) room)
+        small-answer (saidIn manner (partsOf bytes places) room) outRoom
+        (said-small manner (partsOf bytes places) (accepted-is-laid-out bytes are places e .0) room)
     by-case (cases.Wrong offset) e = tt
     by-case cases.TooLong e = tt

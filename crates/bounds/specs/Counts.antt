@@ -1,11 +1,12 @@
 -- The kind and the counts of an answer (document 01, "Numbers returned"): of every case they are small numbers, since its code has
--- at most 65,535 bytes.
+-- at most 65,535 bytes. In every manner.
 -- Assumes nothing.
 use Prim.Native.Nat.{ℕ, _≤_, _<_}
 use mathlib.Core.List.{List}
 use Rattle.basics.specs.Bytes.{AreBytes}
 use Rattle.number.specs.Number.{greatest}
-use Rattle.report.specs.Report.{reportOf}
+use Rattle.report.specs.Report.{reportIn}
+use Rattle.report.specs.declared.Manner.{Manner}
 use Rattle.answer.specs.declared.Report.{Report}
 use Rattle.answer.specs.declared.Report.the-variants.{Message, NoMessage, Broken, NoRoom, NoOutput, TooLong}
 
@@ -19,4 +20,5 @@ Small (NoOutput size) = Unit {0}
 Small TooLong = Unit {0}
 
 abbrev pub CountsSmall : Type 0
-CountsSmall = (bytes : List ℕ) → AreBytes bytes → (room outRoom : ℕ) → Small (reportOf bytes room outRoom)
+CountsSmall =
+    (manner : Manner) (bytes : List ℕ) → AreBytes bytes → (room outRoom : ℕ) → Small (reportIn manner bytes room outRoom)
