@@ -8,7 +8,7 @@ use Rattle.bounds.specs.Counts.{Small}
 use Rattle.number.specs.Number.{greatest}
 use Rattle.structs.specs.Structs.{low, reportNumbers}
 use Rattle.answer.specs.Answer.{numbered}
-use Rattle.report.specs.Report.{reportOf}
+use Rattle.report.specs.Report.{reportIn}
 use Rattle.answer.specs.declared.Report.{Report}
 use Rattle.answer.specs.declared.Report.the-variants.{Message, NoMessage, Broken, NoRoom, NoOutput, TooLong}
 use Rattle.promises.specs.Counts.{plainly, CCounts}
@@ -27,4 +27,5 @@ as-they-are (NoOutput size) small = refl
 as-they-are TooLong small = refl
 
 pub c-counts : CCounts
-c-counts bytes are room outRoom = as-they-are (reportOf bytes room outRoom) (counts-small bytes are room outRoom)
+c-counts manner bytes are room outRoom =
+    as-they-are (reportIn manner bytes room outRoom) (counts-small manner bytes are room outRoom)

@@ -1,4 +1,5 @@
--- The C interface's report has kind and counts of 32 bits. Of every case they are document 01's own: none is cut down to fit.
+-- The C interface's report has kind and counts of 32 bits. Of every case, in every manner, they are those of the answer: none is cut
+-- down to fit.
 -- proofs/Counts.antt has the proof.
 -- Assumes nothing.
 use Prim.Native.Nat.{ℕ}
@@ -8,7 +9,8 @@ use Rattle.basics.specs.Bytes.{AreBytes}
 use Rattle.structs.specs.Structs.{nth, reportNumbers}
 use Rattle.structs.specs.declared.KorsepalReport.{KorsepalReport}
 use Rattle.answer.specs.Answer.{numbered}
-use Rattle.report.specs.Report.{reportOf}
+use Rattle.report.specs.Report.{reportIn}
+use Rattle.report.specs.declared.Manner.{Manner}
 
 -- the numbers of an answer, as they are
 abbrev pub plainly : List ℕ → KorsepalReport
@@ -17,5 +19,5 @@ plainly numbers =
 
 abbrev pub CCounts : Type 0
 CCounts =
-    (bytes : List ℕ) → AreBytes bytes → (room outRoom : ℕ) →
-    reportNumbers (reportOf bytes room outRoom) ≡ plainly (numbered (reportOf bytes room outRoom))
+    (manner : Manner) (bytes : List ℕ) → AreBytes bytes → (room outRoom : ℕ) →
+    reportNumbers (reportIn manner bytes room outRoom) ≡ plainly (numbered (reportIn manner bytes room outRoom))

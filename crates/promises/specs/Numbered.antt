@@ -27,7 +27,7 @@ pub record PromisesNumbered : Type 0 where
   pub strict : SamePromise strictNumbered
   -- `read_case`
   pub case : SamePromise caseNumbered
-  -- `simulate_block`
+  -- `simulate_block`, `simulate_block_in`
   pub walk : SamePromise walkNumbered
-  -- `build_message`, `report_parts`
+  -- `build_message`, `report_parts`, and both in a manner
   pub report : SamePromise reportNumbered

@@ -37,7 +37,7 @@ pub record OneOutcome : Type 1 where
       Once (λ (o : LeftBoth A). (o .result ≡ wanted) × (o .first ≡ left) × (o .second ≡ other))
   -- a text is written from a place on: every writer
   pub written : (at : ℕ) (text out : List ℕ) → Once (λ (o : Left ℕ). Written at text out (o .result) (o .slice))
-  -- what is said goes to the output: `report_parts`, whose stack at exit is `value`
+  -- what is said goes to the output: `report_parts` and `report_parts_in`, whose stack at exit is `value`
   pub delivered : (what : Said) (out : List ℕ) → Once (λ (o : Left Report). Delivered what out (o .result) (o .slice))
   -- `fixed_lengths`
   pub fixedLengths : Once FixedLengths
