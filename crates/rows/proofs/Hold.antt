@@ -11,7 +11,7 @@ use Rattle.leader.specs.Scan.{scanFrom, instructions, scanCount, leadersOf, ans
 use Rattle.branch.specs.Branch.{branchOf}
 use Rattle.greatest.specs.Greatest.{target}
 use Rattle.leader.specs.Targets.{entryTargets, switchTargets, leadersAt}
-use Rattle.descriptor.specs.Readers.{slotsOf, judged, parameters, startingAt, parameterAt, closing, slotsBehind, returnSlots}
+use Rattle.descriptor.specs.Readers.{slotsOf, judged, parameters, startingAt, parameterAt, closing, slotsBehind, returnSlots, fieldSlots}
 use Rattle.fieldtype.specs.Search.{firstIn, firstFrom}
 use Rattle.fieldtype.specs.Types.{brackets, typeBehind, fieldTypeAt, typeSlots, typesFrom, typesAt, typesOf}
 use Rattle.text.specs.Decimal.{digits, decimal}
@@ -34,8 +34,8 @@ use Rattle.casefile.specs.Parts.{partsOf}
 use Rattle.casefile.specs.Whole.{tablesAt, placesIn, caseOf}
 use Rattle.effects.specs.Depth.{ruleOf, depthOf}
 use Rattle.effects.specs.Lookup.{lookupIn}
-use Rattle.effects.specs.Rows.{rowOf}
-use Rattle.walk.specs.Room.{completedFrom, completed, blockWalk}
+use Rattle.effects.specs.Rows.{rowOf, addedRow, fullRowOf}
+use Rattle.walk.specs.Room.{completedFrom, completed, blockWalkIn}
 use Rattle.walk.specs.Walk.{step, walkFrom, walk}
 use Rattle.fault.specs.Decoding.{actionOf, constructs, decoded}
 use Rattle.search.specs.Search.{firstMatch}
@@ -45,7 +45,7 @@ use Rattle.message.specs.Message.{causeText, messageText}
 use Rattle.words.specs.Words.{methodText, invokeText}
 use Rattle.answer.specs.Answer.{numbered as reported}
 use Rattle.locals.specs.Name.{isInstance}
-use Rattle.report.specs.Report.{messageOf, saidOf, reportOf, reportedIn}
+use Rattle.report.specs.Report.{messageOf, saidIn, reportIn, reportedBy}
 use Rattle.trace.specs.Trace.{slotFrom, traced}
 use Rattle.rows.specs.Rows.{AllHold, none, _&_, rows}
 
@@ -56,13 +56,15 @@ unfolding rows
     parameters judged slotsOf typesOf typesAt typesFrom fieldTypeAt typeBehind brackets firstFrom firstIn typeSlots returnSlots closing slotsBehind
     parameterNames joined commaed typeNames typeName elementName baseName baseNames bracketPairs className dotted dotOf
     numbered numberOf answer typeReading methodReading parametersAt returnAt typeAt typeIn strictBrackets element isBase unnamedType
-    reported reportOf reportedIn caseOf placesIn tablesAt textAt numberAt numberFrom runBy membersThen recordsThen partsOf
-    saidOf decoded depthOf ruleOf actionOf constructs lookupIn memberFound memberAt textPart afterText classOf nameOf
-    descriptorOf traced blockWalk completed completedFrom walk walkFrom step rowOf fixedLength slotFrom
+    reported reportIn reportedBy caseOf placesIn tablesAt textAt numberAt numberFrom runBy membersThen recordsThen partsOf
+    saidIn decoded depthOf ruleOf actionOf constructs lookupIn memberFound memberAt textPart afterText classOf nameOf
+    descriptorOf traced blockWalkIn completed completedFrom walk walkFrom step rowOf addedRow fullRowOf fieldSlots fixedLength slotFrom
     messageOf messageText actionText invokeText methodText causeText localName recordsIn firstMatch signatureParameter
     parameterAt startingAt numberedName decimal digits isInstance over
 rows-hold =
     refl & refl & refl & refl & refl & refl & refl & refl & refl & refl & refl & refl
+    & refl & refl & refl & refl & refl & refl & refl & refl & refl & refl & refl & refl
+    & refl & refl & refl & refl & refl & refl & refl & refl & refl & refl & refl & refl
     & refl & refl & refl & refl & refl & refl & refl & refl & refl & refl & refl & refl
     & refl & refl & refl & refl & refl & refl & refl & refl & refl & refl & refl & refl
     & refl & refl & none

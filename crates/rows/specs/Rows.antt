@@ -22,7 +22,8 @@ use Rattle.jdescriptor.specs.Answer.{answer}
 use Rattle.judging.specs.Judged.{numbered}
 use Rattle.judging.specs.Reading.{typeReading, methodReading}
 use Rattle.answer.specs.Answer.{numbered as reported}
-use Rattle.report.specs.Report.{reportOf, reportedIn}
+use Rattle.report.specs.Report.{documentManner, fullManner, reportIn, reportedBy}
+use Rattle.report.specs.declared.Manner.{Manner}
 
 -- the bytes of a static method's case with a fault and a code, both short; no signature, no members, no records
 abbrev pub static : ℕ → List ℕ → List ℕ
@@ -33,6 +34,39 @@ abbrev pub measured : List ℕ → List ℕ
 measured descriptor =
     8 ∷ 5 ∷ 6 ∷ 0x2a ∷ 0x2b ∷ 0xb8 ∷ 0x00 ∷ 0x01 ∷ 0xbe
     ∷ 0 ∷ 1 ∷ 1 ∷ 1 ∷ 1 ∷ 97 ∷ 1 ∷ 109 ∷ length descriptor ∷ (descriptor ++ (0 ∷ []))
+
+-- ---- the cases of document 02, request 1: each faults at an arraylength
+
+-- aload_0, lconst_1, iconst_1, lshl, pop2
+abbrev pub shifting : List ℕ
+shifting = static 5 (0x2a ∷ 0x0a ∷ 0x04 ∷ 0x79 ∷ 0x58 ∷ 0xbe ∷ [])
+
+-- loads, then dup_x1, dup_x2, dup2_x1 or dup2_x2, and as many pops as leave the lowest slot alone, a copy
+abbrev pub copyingX1 : List ℕ
+copyingX1 = static 5 (0x2a ∷ 0x2b ∷ 0x5a ∷ 0x57 ∷ 0x57 ∷ 0xbe ∷ [])
+
+abbrev pub copyingX2 : List ℕ
+copyingX2 = static 7 (0x2a ∷ 0x2b ∷ 0x2c ∷ 0x5b ∷ 0x57 ∷ 0x57 ∷ 0x57 ∷ 0xbe ∷ [])
+
+abbrev pub copying2X1 : List ℕ
+copying2X1 = static 8 (0x2a ∷ 0x2b ∷ 0x2c ∷ 0x5d ∷ 0x57 ∷ 0x57 ∷ 0x57 ∷ 0x57 ∷ 0xbe ∷ [])
+
+abbrev pub copying2X2 : List ℕ
+copying2X2 = static 10 (0x2a ∷ 0x2b ∷ 0x2c ∷ 0x2d ∷ 0x5e ∷ 0x57 ∷ 0x57 ∷ 0x57 ∷ 0x57 ∷ 0x57 ∷ 0xbe ∷ [])
+
+-- aload_0, aload_1, lconst_1, putfield 1, which is a field J; the class and the field are named a and f
+abbrev pub storing : List ℕ
+storing =
+    8 ∷ 6 ∷ 7 ∷ 0x2a ∷ 0x2b ∷ 0x0a ∷ 0xb5 ∷ 0x00 ∷ 0x01 ∷ 0xbe
+    ∷ 0 ∷ 1 ∷ 1 ∷ 0 ∷ 1 ∷ 97 ∷ 1 ∷ 102 ∷ 1 ∷ 74 ∷ 0 ∷ []
+
+-- aload_0, iconst_1, iconst_1, multianewarray of so many dimensions, pop
+abbrev pub making : ℕ → List ℕ
+making dimensions = static 8 (0x2a ∷ 0x04 ∷ 0x04 ∷ 0xc5 ∷ 0x00 ∷ 0x01 ∷ dimensions ∷ 0x57 ∷ 0xbe ∷ [])
+
+-- iconst_0, iconst_1, iadd, aload_0, aload_1, aload_2
+abbrev pub adding : List ℕ
+adding = static 6 (0x03 ∷ 0x04 ∷ 0x60 ∷ 0x2a ∷ 0x2b ∷ 0x2c ∷ 0xbe ∷ [])
 
 -- "Static method, flags 8, fault 1, code 2a b6 00 01 57 b1, signature `m:(Ljava/lang/String;)V`, member 1 method
 -- `java/lang/String` `length` `()I`, no records: 65 bytes"
@@ -55,10 +89,17 @@ pub data Row : Type 0 where
   -- a text, the room for numbers, and what the strict reader of a method, or of a type, answers in document 01's numbers
   methodReads : List ℕ → ℕ → List ℕ → Row
   typeReads : List ℕ → ℕ → List ℕ → Row
-  -- the bytes of a case, the room of the stack and of the output, and the report's answer in document 01's numbers
-  reports : List ℕ → ℕ → ℕ → List ℕ → Row
-  -- the bytes of a case, the room of the stack, and the message, in an output of its length
-  writes : List ℕ → ℕ → List ℕ → Row
+  -- a manner, the bytes of a case, the room of the stack and of the output, and the report's answer in document 01's numbers
+  reportsIn : Manner → List ℕ → ℕ → ℕ → List ℕ → Row
+  -- a manner, the bytes of a case, the room of the stack, and the message, in an output of its length
+  writesIn : Manner → List ℕ → ℕ → List ℕ → Row
+
+-- in document 01's manner
+abbrev pub reports : List ℕ → ℕ → ℕ → List ℕ → Row
+reports bytes room outRoom told = reportsIn documentManner bytes room outRoom told
+
+abbrev pub writes : List ℕ → ℕ → List ℕ → Row
+writes bytes room message = writesIn documentManner bytes room message
 
 abbrev pub Holds : Row → Type 0
 Holds (measures code pc answer) = lengthOf code pc ≡ answer
@@ -68,8 +109,8 @@ Holds (names text named) = parameterNames text ≡ named
 Holds (returns text slots) = returnSlots text ≡ slots
 Holds (methodReads text room told) = numbered (answer (methodReading text) room) ≡ told
 Holds (typeReads text room told) = numbered (answer (typeReading text) room) ≡ told
-Holds (reports bytes room outRoom told) = reported (reportOf bytes room outRoom) ≡ told
-Holds (writes bytes room message) = reportedIn bytes room (replicate (length message) 0) ≡ message
+Holds (reportsIn manner bytes room outRoom told) = reported (reportIn manner bytes room outRoom) ≡ told
+Holds (writesIn manner bytes room message) = reportedBy manner bytes room (replicate (length message) 0) ≡ message
 
 infixr 5 _&_
 pub data AllHold : List Row → Type 0 where
@@ -121,6 +162,35 @@ rows =
     reports (measured (ascii "(La)V;)J")) 8 60 (0 ∷ 28 ∷ 1 ∷ 4 ∷ 3 ∷ []) ∷
     reports (measured (ascii "(La)J;)V")) 8 60 (0 ∷ 55 ∷ 2 ∷ 4 ∷ 3 ∷ []) ∷
     writes (measured (ascii "(La)J;)V")) 8 (ascii "Cannot read the array length because \"<local0>\" is null") ∷
+    -- document 02, request 1: document 01's model stops, and the full one goes on. lshl takes three slots
+    reports shifting 8 60 (0 ∷ 28 ∷ 1 ∷ 6 ∷ 3 ∷ []) ∷
+    reportsIn fullManner shifting 8 60 (0 ∷ 55 ∷ 2 ∷ 6 ∷ 5 ∷ []) ∷
+    writesIn fullManner shifting 8 (ascii "Cannot read the array length because \"<local0>\" is null") ∷
+    -- the four forms
+    reports copyingX1 8 60 (0 ∷ 28 ∷ 1 ∷ 6 ∷ 2 ∷ []) ∷
+    reportsIn fullManner copyingX1 8 60 (0 ∷ 55 ∷ 2 ∷ 6 ∷ 5 ∷ []) ∷
+    writesIn fullManner copyingX1 8 (ascii "Cannot read the array length because \"<local1>\" is null") ∷
+    reports copyingX2 8 60 (0 ∷ 28 ∷ 1 ∷ 8 ∷ 3 ∷ []) ∷
+    reportsIn fullManner copyingX2 8 60 (0 ∷ 55 ∷ 2 ∷ 8 ∷ 7 ∷ []) ∷
+    writesIn fullManner copyingX2 8 (ascii "Cannot read the array length because \"<local2>\" is null") ∷
+    reports copying2X1 8 60 (0 ∷ 28 ∷ 1 ∷ 9 ∷ 3 ∷ []) ∷
+    reportsIn fullManner copying2X1 8 60 (0 ∷ 55 ∷ 2 ∷ 9 ∷ 8 ∷ []) ∷
+    writesIn fullManner copying2X1 8 (ascii "Cannot read the array length because \"<local1>\" is null") ∷
+    reports copying2X2 8 60 (0 ∷ 28 ∷ 1 ∷ 11 ∷ 4 ∷ []) ∷
+    reportsIn fullManner copying2X2 8 60 (0 ∷ 55 ∷ 2 ∷ 11 ∷ 10 ∷ []) ∷
+    writesIn fullManner copying2X2 8 (ascii "Cannot read the array length because \"<local2>\" is null") ∷
+    -- putfield J takes three slots
+    reports storing 8 60 (0 ∷ 28 ∷ 1 ∷ 5 ∷ 3 ∷ []) ∷
+    reportsIn fullManner storing 8 60 (0 ∷ 55 ∷ 2 ∷ 5 ∷ 4 ∷ []) ∷
+    writesIn fullManner storing 8 (ascii "Cannot read the array length because \"<local0>\" is null") ∷
+    -- multianewarray takes as many as it has dimensions; "dimension 0 fails"
+    reports (making 2) 8 60 (0 ∷ 28 ∷ 1 ∷ 6 ∷ 3 ∷ []) ∷
+    reportsIn fullManner (making 2) 8 60 (0 ∷ 55 ∷ 2 ∷ 6 ∷ 5 ∷ []) ∷
+    reports (making 0) 8 60 (0 ∷ 28 ∷ 1 ∷ 6 ∷ 3 ∷ []) ∷
+    reportsIn fullManner (making 0) 8 60 (0 ∷ 28 ∷ 1 ∷ 6 ∷ 3 ∷ []) ∷
+    -- "3 may now come where the old model gave up earlier", here of two cells
+    reports adding 2 60 (0 ∷ 28 ∷ 1 ∷ 7 ∷ 2 ∷ []) ∷
+    reportsIn fullManner adding 2 60 (3 ∷ 4 ∷ []) ∷
     -- "strict `()` is 1, `())` is 12, 255 `[` then I passes, 256 is 2."
     methodReads (40 ∷ 41 ∷ []) 4 (1 ∷ []) ∷
     methodReads (40 ∷ 41 ∷ 41 ∷ []) 4 (12 ∷ []) ∷
