@@ -10,8 +10,20 @@ const SHOWN: usize = 5;
 
 /// The columns: those of cases, then those of descriptors.
 const COLUMNS: [&str; 14] = [
-    "inputs", "cause", "action", "none", "full cause", "broken", "too long", "reports", "walks", "names", "lengths",
-    "lists", "types", "methods",
+    "inputs",
+    "cause",
+    "action",
+    "none",
+    "full cause",
+    "broken",
+    "too long",
+    "reports",
+    "walks",
+    "names",
+    "lengths",
+    "lists",
+    "types",
+    "methods",
 ];
 const CASE_COLUMNS: &[Column] = &[
     Column::Inputs,

@@ -119,8 +119,7 @@ impl Run {
             let records: Vec<LocalRecord> = parts.records.iter().map(local_record).collect();
             let lookup = |index: u16, kind: Kind| member(parts, index, kind);
             let (manner, fault) = (model.manner(), usize::from(parts.fault));
-            let ours =
-                korsepal::build_message_in(manner, parts.flags, &parts.code, signature, lookup, &records, fault);
+            let ours = korsepal::build_message_in(manner, parts.flags, &parts.code, signature, lookup, &records, fault);
             let expected = facts.said(model).message.clone();
             self.book.expect(bytes, &model.named("build_message"), ours.map(String::into_bytes), expected);
         }

@@ -126,7 +126,9 @@ fn carrying(form: &str) -> Effect {
 fn carried(forms: &[&str]) -> Effect {
     let effect = carrying(forms[0]);
     let same = |form: &&str| match (&effect.put, carrying(form)) {
-        (Put::Carried(places), Effect { taken, put: Put::Carried(others) }) => effect.taken == taken && *places == others,
+        (Put::Carried(places), Effect { taken, put: Put::Carried(others) }) => {
+            effect.taken == taken && *places == others
+        }
         _ => false,
     };
     assert!(forms.iter().all(same), "the forms {forms:?} differ");

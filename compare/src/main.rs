@@ -172,9 +172,11 @@ fn end(run: &Run) {
 fn write_case(path: &str, method: &str, fault: usize) {
     let class = classfile::read(&or_end(std::fs::read(path), path));
     let class = or_end(class.map_err(|wrong| std::io::Error::new(std::io::ErrorKind::InvalidData, wrong)), path);
-    let bytes = class.methods.iter().find(|found| found.name == method.as_bytes()).and_then(|found| {
-        classfile::case_at(&class, found, fault, classfile::Members::Cited).bytes()
-    });
+    let bytes = class
+        .methods
+        .iter()
+        .find(|found| found.name == method.as_bytes())
+        .and_then(|found| classfile::case_at(&class, found, fault, classfile::Members::Cited).bytes());
     let bytes = or_end(bytes.ok_or(std::io::ErrorKind::NotFound.into()), method);
     or_end(std::io::stdout().write_all(&bytes), "standard output");
 }

@@ -88,7 +88,8 @@ fn case_rows() -> Vec<(Parts, &'static str)> {
 
 /// A static method with a field of type long at index 1.
 fn with_long(code: &[u8], fault: u16) -> Parts {
-    let field = Member { index: 1, class: b"a".to_vec(), name: b"f".to_vec(), descriptor: b"J".to_vec(), ..Member::default() };
+    let field =
+        Member { index: 1, class: b"a".to_vec(), name: b"f".to_vec(), descriptor: b"J".to_vec(), ..Member::default() };
     Parts { members: vec![field], ..bare(code, fault, b"") }
 }
 

@@ -208,7 +208,8 @@ impl Facts {
         let may_differ = stands_in || cut.is_some();
         let own_message = if may_differ { Wrapped::over(parts, &whole).message(fault) } else { message.clone() };
         let holding = whole.holding;
-        let said = |message: Option<String>, walked| Said { message: message.map(|text| holding.release(text)), walked };
+        let said =
+            |message: Option<String>, walked| Said { message: message.map(|text| holding.release(text)), walked };
         Facts {
             holding,
             falling: scan.falling,

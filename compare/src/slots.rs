@@ -3,7 +3,11 @@
 
 /// The slots of a value by the first letter of its type.
 fn slots_by(first: Option<&u8>) -> usize {
-    if matches!(first, Some(b'J' | b'D')) { 2 } else { 1 }
+    if matches!(first, Some(b'J' | b'D')) {
+        2
+    } else {
+        1
+    }
 }
 
 /// The place behind the type at a place, and its slots.
