@@ -12,7 +12,6 @@ use Rattle.cell.specs.declared.Slot.{Slot}
 use Rattle.cell.specs.declared.Slot.the-variants.{Other, Loaded}
 use Rattle.walk.specs.Room.{Roomed, lacks, fits, blockWalkIn}
 use Rattle.walk.specs.Walk.{done, failed}
-use Rattle.fault.specs.Decoding.{decoded}
 use Rattle.fault.specs.declared.Action.{Action}
 use Rattle.fault.specs.declared.Fault.{Fault}
 use Rattle.fault.specs.declared.Fault.the-variants.{Failed, Nothing}
@@ -24,13 +23,11 @@ use Rattle.trace.specs.declared.Trace.{Trace}
 use Rattle.trace.specs.declared.Trace.the-variants.{NoRoom, Traced}
 use Rattle.models.specs.Models.{SilentAlike, SameAction, ActionsAlike}
 use Rattle.models.proofs.Cause.{same-cause}
+use Rattle.models.proofs.Elsewhere.{fault}
 
 abbrev scanned : Scan → ℕ
 scanned (Leader leader scan) = scan
 scanned (Unmeasured at scan) = scan
-
-abbrev fault : Parts → Fault
-fault p = decoded (p .code) (p .members) (p .memberCount) (p .fault)
 
 -- ---- nothing to say
 

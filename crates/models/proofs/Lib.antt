@@ -1,4 +1,5 @@
 pub mod Actions
 pub mod Cause
+pub mod Elsewhere
 pub mod Reports
 pub mod Walk

@@ -13,13 +13,16 @@ use Rattle.casefile.specs.Whole.{caseOf}
 use Rattle.casefile.specs.declared.Case.{Case}
 use Rattle.casefile.specs.declared.Case.the-variants as cases
 use Rattle.casefile.specs.declared.Places.{Places}
-use Rattle.answer.specs.Answer.{Said, silent, roomless, said, needed, answerBy}
+use Rattle.answer.specs.Answer.{Said, silent, roomless, said, needed, answerBy, outputBy}
+use Rattle.answer.specs.declared.Report.{Report}
 use Rattle.answer.specs.declared.Report.the-variants.{Message, NoMessage, NoRoom, NoOutput}
-use Rattle.report.specs.Report.{documentManner, fullManner, saidIn, answerOf, reportIn, reportOf}
+use Rattle.report.specs.Report.{documentManner, fullManner, saidIn, answerOf, outputOf, reportIn, reportOf, reportedBy, reportedIn}
+use Rattle.report.specs.declared.Manner.{Manner}
 use Rattle.evidence.proofs.Delivered.{delivers, answer-is, answered, left, has-parts}
-use Rattle.models.specs.Models.{SameReport, ReportsAlike, NoMessageAlike}
+use Rattle.models.specs.Models.{GivesUp, SameReport, ReportsAlike, NoMessageAlike, NoRoomAlike, ReportsElsewhere}
 use Rattle.models.proofs.Actions.{silent-alike}
 use Rattle.models.proofs.Cause.{same-cause}
+use Rattle.models.proofs.Elsewhere.{same-elsewhere, same-lack}
 
 -- ---- a message with a cause
 
@@ -51,7 +54,22 @@ module _ (bytes : List ℕ) (room room′ : ℕ) (out out′ : List ℕ) (size s
 pub reports-alike : ReportsAlike
 reports-alike = same-report
 
--- ---- no message
+-- ---- the other answers
+
+-- where an answer of one manner is that of another for parts, it is for every case
+module _ (one other : Manner) (bytes : List ℕ) (room room′ outRoom outRoom′ : ℕ) (answer : Report) where
+  by-parts :
+      ((places : Places) → caseOf bytes ≡ cases.Parts places → answerBy (saidIn one (partsOf bytes places) room) outRoom ≡ answer →
+      answerBy (saidIn other (partsOf bytes places) room′) outRoom′ ≡ answer) →
+      reportIn one bytes room outRoom ≡ answer → reportIn other bytes room′ outRoom′ ≡ answer
+  unfolding reportIn
+  by-parts parts e = by-case (caseOf bytes) refl e
+    where
+      by-case :
+          (c : Case) → caseOf bytes ≡ c → answerOf one bytes room outRoom c ≡ answer → answerOf other bytes room′ outRoom′ c ≡ answer
+      by-case (cases.Parts places) reads q = parts places reads q
+      by-case (cases.Wrong offset) reads q = q
+      by-case cases.TooLong reads q = q
 
 silent-answer : (told : Said) (outRoom : ℕ) → answerBy told outRoom ≡ NoMessage → told ≡ silent
 silent-answer silent outRoom e = refl
@@ -65,14 +83,52 @@ silent-answer (said message kind scan block) outRoom e = by-room (leb (length me
     by-room false q = let z : _≡_ {A = ℕ} 0 1 = cc in absurd (omega arith)
 
 pub no-message-alike : NoMessageAlike
-unfolding reportIn
-no-message-alike one other bytes room room′ outRoom outRoom′ answer = by-case (caseOf bytes) answer
+no-message-alike one other bytes room room′ outRoom outRoom′ =
+    by-parts one other bytes room room′ outRoom outRoom′ NoMessage
+    (λ places reads e.
+    let p : Parts = partsOf bytes places in
+    ap (λ (told : Said). answerBy told outRoom′)
+    (silent-alike one other p room room′ (silent-answer (saidIn one p room) outRoom e)))
+
+roomless-answer : (told : Said) (outRoom index : ℕ) → answerBy told outRoom ≡ NoRoom index → told ≡ roomless index
+roomless-answer silent outRoom index e = let z : _≡_ {A = ℕ} 0 1 = cc in absurd (omega arith)
+roomless-answer (roomless at) outRoom index e = let same : at ≡ index = cc in ap roomless same
+roomless-answer (said message kind scan block) outRoom index e = by-room (leb (length message) outRoom) e
   where
-    by-case :
-        (c : Case) → answerOf one bytes room outRoom c ≡ NoMessage → answerOf other bytes room′ outRoom′ c ≡ NoMessage
-    by-case (cases.Parts places) e =
-        let p : Parts = partsOf bytes places in
-        ap (λ (told : Said). answerBy told outRoom′)
-        (silent-alike one other p room room′ (silent-answer (saidIn one p room) outRoom e))
-    by-case (cases.Wrong offset) e = let z : _≡_ {A = ℕ} 0 1 = cc in absurd (omega arith)
-    by-case cases.TooLong e = let z : _≡_ {A = ℕ} 0 1 = cc in absurd (omega arith)
+    by-room :
+        (b : Bool) → pick b (Message (length message) kind scan block) (NoOutput (needed message)) ≡ NoRoom index →
+        said message kind scan block ≡ roomless index
+    by-room true q = let z : _≡_ {A = ℕ} 0 1 = cc in absurd (omega arith)
+    by-room false q = let z : _≡_ {A = ℕ} 0 1 = cc in absurd (omega arith)
+
+pub no-room-alike : NoRoomAlike
+no-room-alike bytes room outRoom outRoom′ index =
+    by-parts documentManner fullManner bytes room room outRoom outRoom′ (NoRoom index)
+    (λ places reads e.
+    let p : Parts = partsOf bytes places in
+    ap (λ (told : Said). answerBy told outRoom′)
+    (same-lack p room index (roomless-answer (saidIn documentManner p room) outRoom index e)))
+
+-- ---- all answers and outputs, where document 01's model does not give up
+
+module _ (bytes : List ℕ)
+    (elsewhere : (places : Places) → caseOf bytes ≡ cases.Parts places → GivesUp (partsOf bytes places) → ⊥) where
+  same-answers : (room outRoom : ℕ) → reportIn fullManner bytes room outRoom ≡ reportOf bytes room outRoom
+  same-answers room outRoom =
+      by-parts documentManner fullManner bytes room room outRoom outRoom (reportOf bytes room outRoom)
+      (λ places reads e.
+      ap (λ (told : Said). answerBy told outRoom) (same-elsewhere (partsOf bytes places) (elsewhere places reads) room) ∙ e)
+      refl
+
+  same-outputs : (room : ℕ) (out : List ℕ) → reportedBy fullManner bytes room out ≡ reportedIn bytes room out
+  unfolding reportedBy
+  same-outputs room out = by-case (caseOf bytes) refl
+    where
+      by-case : (c : Case) → caseOf bytes ≡ c → outputOf fullManner bytes room out c ≡ outputOf documentManner bytes room out c
+      by-case (cases.Parts places) reads =
+          ap (λ (told : Said). outputBy told out) (same-elsewhere (partsOf bytes places) (elsewhere places reads) room)
+      by-case (cases.Wrong offset) reads = refl
+      by-case cases.TooLong reads = refl
+
+pub reports-elsewhere : ReportsElsewhere
+reports-elsewhere bytes elsewhere = record { answers = same-answers bytes elsewhere; outputs = same-outputs bytes elsewhere }

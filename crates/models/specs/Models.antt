@@ -1,23 +1,30 @@
--- The two models of a report beside each other (document 02, request 1): "Where both calls have room, a cause under the old model is the
--- same under the full one." A walk that succeeds in document 01's model succeeds in the full one with the same slots, count and
--- heights. So the cause is the same, and with as many cells lent the full model has room too. proofs/ has a proof of each statement.
+-- The two models of a report beside each other (document 02, request 1): "Where both calls have room, a cause under the old model is
+-- the same under the full one." The walk in the full model is document 01's in everything, unless that gives up at an instruction
+-- that it does not model. So the reports differ only there; a cause is the same, and with as many cells lent the full model has room
+-- for it too. proofs/ has a proof of each statement.
 -- Assumes nothing.
 use Prim.Native.Nat.{ℕ, _≤_}
 use mathlib.Core.Path.{_≡_}
 use mathlib.Core.List.{List}
 use lib.ListN.{length}
 use Rattle.text.specs.Writing.{over}
-use Rattle.casefile.specs.Parts.{Parts}
+use Rattle.leader.specs.declared.Scan.the-variants.{Leader}
+use Rattle.casefile.specs.Parts.{Parts, partsOf}
+use Rattle.casefile.specs.Whole.{caseOf}
+use Rattle.casefile.specs.declared.Case.the-variants as cases
+use Rattle.casefile.specs.declared.Places.{Places}
 use Rattle.cell.specs.declared.Slot.{Slot}
+use Rattle.effects.specs.Lookup.{lookupIn}
+use Rattle.effects.specs.Rows.{rowOf}
 use Rattle.effects.specs.declared.Model.the-variants.{Full}
 use Rattle.walk.specs.Room.{lacks, fits, blockWalk, blockWalkIn}
-use Rattle.walk.specs.Walk.{done}
+use Rattle.walk.specs.Walk.{notModelled, cells, done, failed, walk}
 use Rattle.fault.specs.Decoding.{decoded}
 use Rattle.fault.specs.declared.Action.{Action}
 use Rattle.fault.specs.declared.Fault.the-variants.{Failed}
 use Rattle.answer.specs.Answer.{kindOf, silent, roomless, said}
 use Rattle.answer.specs.declared.Report.the-variants.{Message, NoMessage, NoRoom}
-use Rattle.report.specs.Report.{fullManner, messageOf, saidIn, saidOf, reportIn, reportOf, reportedBy, reportedIn}
+use Rattle.report.specs.Report.{fullManner, scanOf, messageOf, saidIn, saidOf, reportIn, reportOf, reportedBy, reportedIn}
 use Rattle.report.specs.declared.Manner.{Manner}
 
 -- ---- the walk
@@ -38,6 +45,28 @@ WalksAlike =
     SameWalk code members count leader fault room slots block
 
 -- ---- the parts of a case
+
+-- document 01's model "gave up": the fault dereferences, it has a leader, and the walk comes to an instruction that is not modelled
+pub record GivesUp (p : Parts) : Type 0 where
+  pub action : Action
+  pub depth : ℕ
+  pub leader : ℕ
+  pub scan : ℕ
+  pub count : ℕ
+  pub index : ℕ
+  pub decodes : decoded (p .code) (p .members) (p .memberCount) (p .fault) ≡ Failed action depth
+  pub leads : scanOf p ≡ Leader leader scan
+  pub walks :
+      walk cells rowOf (lookupIn (p .members) (p .memberCount)) (p .code) (p .fault) leader ≡ failed count index notModelled
+
+-- elsewhere the full model says the same with as many cells lent, also where the walk fails for another reason
+abbrev pub SameElsewhere : Type 0
+SameElsewhere = (p : Parts) → (GivesUp p → ⊥) → (room : ℕ) → saidIn fullManner p room ≡ saidOf p room
+
+-- "3 may now come where the old model gave up earlier", and it never goes: the full model lacks room where
+-- document 01's does, at the same index
+abbrev pub SameLack : Type 0
+SameLack = (p : Parts) (room index : ℕ) → saidOf p room ≡ roomless index → saidIn fullManner p room ≡ roomless index
 
 -- "Where both calls have room": the one has it, since it names a cause, and the other doesn't answer that it lacks it
 abbrev pub SameCause : Type 0
@@ -100,3 +129,20 @@ abbrev pub NoMessageAlike : Type 0
 NoMessageAlike =
     (one other : Manner) (bytes : List ℕ) (room room′ outRoom outRoom′ : ℕ) →
     reportIn one bytes room outRoom ≡ NoMessage → reportIn other bytes room′ outRoom′ ≡ NoMessage
+
+-- answer 3, with as many cells lent
+abbrev pub NoRoomAlike : Type 0
+NoRoomAlike =
+    (bytes : List ℕ) (room outRoom outRoom′ index : ℕ) →
+    reportOf bytes room outRoom ≡ NoRoom index → reportIn fullManner bytes room outRoom′ ≡ NoRoom index
+
+-- the answer and the output are the same in both models, whatever is lent
+pub record SameInBoth (bytes : List ℕ) : Type 0 where
+  pub answers : (room outRoom : ℕ) → reportIn fullManner bytes room outRoom ≡ reportOf bytes room outRoom
+  pub outputs : (room : ℕ) (out : List ℕ) → reportedBy fullManner bytes room out ≡ reportedIn bytes room out
+
+-- every case but those on whose parts document 01's model gives up; one that is broken or too long has no parts
+abbrev pub ReportsElsewhere : Type 0
+ReportsElsewhere =
+    (bytes : List ℕ) → ((places : Places) → caseOf bytes ≡ cases.Parts places → GivesUp (partsOf bytes places) → ⊥) →
+    SameInBoth bytes

@@ -3,15 +3,15 @@
 -- Assumes nothing.
 use Prim.Native.Nat.{ℕ, _+_, _<_}
 use mathlib.Core.Path.{_≡_}
-use mathlib.Core.List.{List}
+use mathlib.Core.List.{List, _++_}
 use lib.Dec.{T}
 use Rattle.basics.specs.Bytes.{u16At}
 use Rattle.jvms.specs.Stack.{keyAt}
 use Rattle.effects.specs.Agreement.{isModelled}
 use Rattle.effects.specs.Lookup.{Lookup}
 use Rattle.effects.specs.Rows.{Row, unmodelled, opaque, aload, aloadOf, carries, keeps, gets, calls, puts, makes}
-use Rattle.walk.specs.Room.{completed, judged}
-use Rattle.walk.specs.Walk.{Marks, done, walk}
+use Rattle.walk.specs.Room.{Completed, completed, judged}
+use Rattle.walk.specs.Walk.{notModelled, Marks, failed, walk}
 use Rattle.walks.specs.Comes.{ComesIn}
 
 -- ---- another table
@@ -20,14 +20,23 @@ use Rattle.walks.specs.Comes.{ComesIn}
 abbrev pub Extends : (ℕ → Row) → (ℕ → Row) → Type 0
 Extends rows more = (key : ℕ) → T (isModelled (rows key)) → more key ≡ rows key
 
--- a walk that succeeds by the one succeeds by the other, with the same slots, count and heights
+-- A walk by the other is the walk by the one in everything, slots, count, reason and heights, unless the one fails for an instruction
+-- that is not modelled (or whose dimensions are 0, which is the same reason).
 abbrev pub WalkExtends : Type 1
 WalkExtends =
     (A : Type 0) (marks : Marks A) (rows more : ℕ → Row) → Extends rows more →
-    (lookup : Lookup) (code : List ℕ) (fault leader : ℕ) (slots : List A) (count : ℕ) →
-    walk marks rows lookup code fault leader ≡ done slots count →
-    (walk marks more lookup code fault leader ≡ done slots count)
+    (lookup : Lookup) (code : List ℕ) (fault leader : ℕ) →
+    ((count index : ℕ) → walk marks rows lookup code fault leader ≡ failed count index notModelled → ⊥) →
+    (walk marks more lookup code fault leader ≡ walk marks rows lookup code fault leader)
     × (completed marks more lookup code fault leader ≡ completed marks rows lookup code fault leader)
+
+-- And however the one ends, the instructions that it completes are the first that the other completes, with the same heights.
+abbrev pub WalkReaches : Type 1
+WalkReaches =
+    (A : Type 0) (marks : Marks A) (rows more : ℕ → Row) → Extends rows more →
+    (lookup : Lookup) (code : List ℕ) (fault leader : ℕ) →
+    (rest : List Completed)
+    × (completed marks more lookup code fault leader ≡ completed marks rows lookup code fault leader ++ rest)
 
 -- ---- another lookup
 
