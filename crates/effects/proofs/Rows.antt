@@ -2,7 +2,7 @@
 -- Assumes nothing.
 use Prim.Native.Nat.{ℕ, _<_}
 use native.Mathlib.Omega.{arith}
-use mathlib.Core.Path.{_≡_, refl, sym, ap, subst}
+use mathlib.Core.Path.{_≡_, refl, _∙_, sym, ap, subst}
 use mathlib.Core.Bool.{Bool, true, false}
 use mathlib.Core.Logic.{⊎-elim}
 use mathlib.Core.List.{List, [], _∷_, List·Memᴰ, List·Memᴰ·not-nil, List·Memᴰ·cases-cons}
@@ -195,31 +195,14 @@ module _ (rows : ℕ → Row) (passed : T (every (λ key. rowFits (rows key) key
   unfolding fixedLength
   passed-sized key below some = fixed-some (formatOf key) (is-fixed key below some)
 
--- both pass
-document-rows-fit : T (every (λ key. rowFits (rowOf key) key) keyCount)
-unfolding rowOf entryOf formatOf
-document-rows-fit = tt
+-- ---- both models
 
+-- the full table passes
 full-rows-fit : T (every (λ key. rowFits (fullRowOf key) key) keyCount)
 unfolding rowOf addedRow fullRowOf entryOf formatOf
 full-rows-fit = tt
 
-pub model-agrees : ModelAgrees
-model-agrees Document = passed-agrees rowOf document-rows-fit
-model-agrees Full = passed-agrees fullRowOf full-rows-fit
-
-pub model-sized : ModelSized
-model-sized Document = passed-sized rowOf document-rows-fit
-model-sized Full = passed-sized fullRowOf full-rows-fit
-
--- document 01 models the opcodes that it lists, and no other
-pub models-documented : ModelsDocumented
-unfolding rowOf
-models-documented op below =
-    alike-is (isModelled (rowOf op)) (documented op)
-    (every-at (λ k. alike (isModelled (rowOf k)) (documented k)) 256 tt op below)
-
--- and the full model these and the ones that are added
+-- and document 01's rows are of it
 
 or-kept : (row other : Row) → T (isModelled row) → orRow row other ≡ row
 or-kept unmodelled other t = absurd t
@@ -233,6 +216,52 @@ or-kept (calls taken) other t = refl
 or-kept (puts taken) other t = refl
 or-kept makes other t = refl
 
+extended : (key : ℕ) → T (isModelled (rowOf key)) → fullRowOf key ≡ rowOf key
+unfolding fullRowOf
+extended key t = or-kept (rowOf key) (addedRow key) t
+
+effect-modelled : (row : Row) → T (hasEffect row) → T (isModelled row)
+effect-modelled unmodelled t = absurd t
+effect-modelled (opaque taken given) t = tt
+effect-modelled aload t = tt
+effect-modelled (aloadOf local) t = tt
+effect-modelled (carries taken places) t = tt
+effect-modelled keeps t = tt
+effect-modelled (gets taken) t = tt
+effect-modelled (calls taken) t = tt
+effect-modelled (puts taken) t = tt
+effect-modelled makes t = tt
+
+full-agrees : Agreeing fullRowOf
+full-agrees = passed-agrees fullRowOf full-rows-fit
+
+pub model-agrees : ModelAgrees
+model-agrees Full = full-agrees
+model-agrees Document =
+    record {
+      effect = λ key below some.
+          let same = extended key (effect-modelled (rowOf key) some) in
+          subst (EffectAgrees key) same (full-agrees .effect key below (subst (λ (r : Row). T (hasEffect r)) (sym same) some));
+      kept = λ key below e.
+          full-agrees .kept key below (extended key (subst (λ (r : Row). T (isModelled r)) (sym e) tt) ∙ e);
+      sized = λ code pc below some.
+          full-agrees .sized code pc below
+          (subst (λ (r : Row). T (isModelled r)) (sym (extended (keyAt code pc) some)) some);
+    }
+
+pub model-sized : ModelSized
+model-sized Full key below some = passed-sized fullRowOf full-rows-fit key below some
+model-sized Document key below some =
+    passed-sized fullRowOf full-rows-fit key below (subst (λ (r : Row). T (isModelled r)) (sym (extended key some)) some)
+
+-- document 01 models the opcodes that it lists, and no other
+pub models-documented : ModelsDocumented
+unfolding rowOf
+models-documented op below =
+    alike-is (isModelled (rowOf op)) (documented op)
+    (every-at (λ k. alike (isModelled (rowOf k)) (documented k)) 256 tt op below)
+
+-- and the full model these and the ones that are added, alike where document 01 has a row
 pub models-added : ModelsAdded
 unfolding rowOf addedRow fullRowOf
 models-added =
@@ -240,5 +269,5 @@ models-added =
       exactly = λ op below.
           alike-is (isModelled (fullRowOf op)) (pick (documented op) true (added op))
           (every-at (λ k. alike (isModelled (fullRowOf k)) (pick (documented k) true (added k))) 256 tt op below);
-      extends = λ op t. or-kept (rowOf op) (addedRow op) t;
+      extends = extended;
     }

@@ -67,8 +67,7 @@ rowOf op =
     (pick (eqb op 193) (opaque 1 1)
     unmodelled)))))))))))))))))))))))))
 
--- What the full model adds: "arithmetic (96 to 131), conversions, comparisons (148 to 152), stores to arrays, `putfield`,
--- `putstatic`, the four missing forms (90, 91, 93, 94), `monitorenter`, `monitorexit` and `multianewarray`" (document 02, request 1).
+-- what the full model adds (document 02, request 1); `added` of Agreement.antt has its words
 unfoldable pub addedRow : ℕ → Row
 addedRow op =
     -- stores to arrays

@@ -5,6 +5,7 @@
 pub enum Model {
     // Those of document 01.
     Document,
-    // These and what document 02, request 1 adds: arithmetic, conversions, comparisons, array stores, field stores and more.
+    // These and what document 02, request 1, adds: arithmetic, conversions, comparisons, stores to arrays and fields, dup_x1 to dup2_x2,
+    // monitors and multianewarray.
     Full,
 }

@@ -3,7 +3,7 @@
 use Prim.Native.Nat.{ℕ}
 use mathlib.Core.Path.{refl}
 use Rattle.basics.specs.Bytes.{u16At}
-use Rattle.jvms.specs.ByName.{InstructionsByName}
+use Rattle.jvms.specs.ByName.{none, _&_, InstructionsByName}
 use Rattle.jvms.specs.Machine.{target}
 use Rattle.jvms.specs.Stack.{entries, entryOf}
 
@@ -21,20 +21,20 @@ instructions-by-name Val opaque locals a b c d e =
       dupX2 = refl;
       dup2X1 = refl;
       dup2X2 = refl;
-      iadd = refl;
-      ladd = refl;
-      dneg = refl;
-      lshl = refl;
-      i2d = refl;
-      l2i = refl;
-      lcmp = refl;
-      fcmpl = refl;
+      twoToOne = refl & refl & refl & refl & refl & refl & refl & refl & refl & refl & refl & refl & refl & refl & refl & refl & refl & refl & none;
+      fourToTwo = refl & refl & refl & refl & refl & refl & refl & refl & refl & refl & refl & refl & refl & none;
+      threeToTwo = refl & refl & refl & none;
+      fourToOne = refl & refl & refl & none;
+      oneToOne = refl & refl & refl & refl & refl & refl & refl & none;
+      twoToTwo = refl & refl & refl & refl & none;
+      oneToTwo = refl & refl & refl & refl & none;
+      longToOne = refl & refl & refl & refl & none;
       iaload = refl;
       aaload = refl;
       laload = refl;
       aaloadFrom = refl;
-      aastore = refl;
-      dastore = refl;
+      arrayStores = refl & refl & refl & refl & refl & refl & none;
+      wideStores = refl & refl & none;
       dastoreTo = refl;
       getfieldInt = refl;
       getfieldLong = refl;

@@ -1,4 +1,4 @@
--- An opcode with several forms does the same to every stack by either: its forms take and give the same slots.
+-- An opcode with several forms does the same to every stack by each: its forms take and give the same slots.
 -- Assumes nothing.
 use Prim.Native.Nat.{ℕ}
 use mathlib.Core.Path.{_≡_, refl, _∙_, sym, ap, subst}

@@ -1,5 +1,5 @@
--- Instructions by name, each run alone on a stack that is written out, bottom first, so that each line can be held to JVMS 6.5 at a
--- glance. Values are any values a, b, c, d, e; `opaque 0 k` is the k-th slot that the instruction at 0 makes itself. proofs/ByName.antt
+-- Instructions by name, or by number where many are alike, each run alone on a stack that is written out, bottom first, so that each
+-- line can be held to JVMS 6.5 at a glance. Values are any values a, b, c, d, e; `opaque 0 k` is the k-th slot that the instruction at 0 makes itself. proofs/ByName.antt
 -- has their proof.
 -- Assumes nothing.
 use Prim.Native.Nat.{ℕ}
@@ -32,6 +32,14 @@ module _ {Val : Type 0} (opaque : ℕ → ℕ → Val) (locals : ℕ → Val) wh
   abbrev pub dereferences : Pool → List ℕ → List Val → List Val
   dereferences pool code stack = target pool code (startingWith stack)
 
+-- each opcode of a list, as the one instruction of a code, leaves the same of a stack
+infixr 5 _&_
+pub data EachLeaves {Val : Type 0} (opaque : ℕ → ℕ → Val) (locals : ℕ → Val) (stack left : List Val) : List ℕ → Type 0 where
+  none : EachLeaves opaque locals stack left []
+  _&_ :
+      {op : ℕ} {ops : List ℕ} → leaves opaque locals small (op ∷ []) stack ≡ left → EachLeaves opaque locals stack left ops →
+      EachLeaves opaque locals stack left (op ∷ ops)
+
 pub record InstructionsByName (Val : Type 0) (opaque : ℕ → ℕ → Val) (locals : ℕ → Val) (a b c d e : Val) : Type 0 where
   -- pop: "..., value → ..."
   pub pop : leaves opaque locals small (0x57 ∷ []) (a ∷ b ∷ []) ≡ a ∷ []
@@ -51,27 +59,35 @@ pub record InstructionsByName (Val : Type 0) (opaque : ℕ → ℕ → Val) (loc
   pub dup2X1 : leaves opaque locals small (0x5d ∷ []) (a ∷ b ∷ c ∷ d ∷ []) ≡ a ∷ c ∷ d ∷ b ∷ c ∷ d ∷ []
   -- dup2_x2: "..., value4, value3, value2, value1 → ..., value2, value1, value4, value3, value2, value1"
   pub dup2X2 : leaves opaque locals small (0x5e ∷ []) (a ∷ b ∷ c ∷ d ∷ e ∷ []) ≡ a ∷ d ∷ e ∷ b ∷ c ∷ d ∷ e ∷ []
-  -- iadd, ladd: "..., value1, value2 → ..., result"
-  pub iadd : leaves opaque locals small (0x60 ∷ []) (a ∷ b ∷ c ∷ []) ≡ a ∷ opaque 0 0 ∷ []
-  pub ladd : leaves opaque locals small (0x61 ∷ []) (a ∷ b ∷ c ∷ d ∷ e ∷ []) ≡ a ∷ opaque 0 0 ∷ opaque 0 1 ∷ []
-  -- dneg: "..., value → ..., result"
-  pub dneg : leaves opaque locals small (0x77 ∷ []) (a ∷ b ∷ c ∷ []) ≡ a ∷ opaque 0 0 ∷ opaque 0 1 ∷ []
-  -- lshl: "value1 must be of type long, and value2 must be of type int"
-  pub lshl : leaves opaque locals small (0x79 ∷ []) (a ∷ b ∷ c ∷ d ∷ []) ≡ a ∷ opaque 0 0 ∷ opaque 0 1 ∷ []
-  -- i2d, l2i: "..., value → ..., result"
-  pub i2d : leaves opaque locals small (0x87 ∷ []) (a ∷ b ∷ []) ≡ a ∷ opaque 0 0 ∷ opaque 0 1 ∷ []
-  pub l2i : leaves opaque locals small (0x88 ∷ []) (a ∷ b ∷ c ∷ []) ≡ a ∷ opaque 0 0 ∷ []
-  -- lcmp, fcmpl: "..., value1, value2 → ..., result", an int
-  pub lcmp : leaves opaque locals small (0x94 ∷ []) (a ∷ b ∷ c ∷ d ∷ e ∷ []) ≡ a ∷ opaque 0 0 ∷ []
-  pub fcmpl : leaves opaque locals small (0x95 ∷ []) (a ∷ b ∷ c ∷ []) ≡ a ∷ opaque 0 0 ∷ []
+  -- iadd, fadd, isub, fsub, imul, fmul, idiv, fdiv, irem, frem; ishl, ishr, iushr; iand, ior, ixor; fcmpl, fcmpg:
+  -- "..., value1, value2 → ..., result"
+  pub twoToOne :
+      EachLeaves opaque locals (a ∷ b ∷ c ∷ []) (a ∷ opaque 0 0 ∷ [])
+      (96 ∷ 98 ∷ 100 ∷ 102 ∷ 104 ∷ 106 ∷ 108 ∷ 110 ∷ 112 ∷ 114 ∷ 120 ∷ 122 ∷ 124 ∷ 126 ∷ 128 ∷ 130 ∷ 149 ∷ 150 ∷ [])
+  -- ladd, dadd, lsub, dsub, lmul, dmul, ldiv, ddiv, lrem, drem; land, lor, lxor: the same, of values of two slots
+  pub fourToTwo :
+      EachLeaves opaque locals (a ∷ b ∷ c ∷ d ∷ e ∷ []) (a ∷ opaque 0 0 ∷ opaque 0 1 ∷ [])
+      (97 ∷ 99 ∷ 101 ∷ 103 ∷ 105 ∷ 107 ∷ 109 ∷ 111 ∷ 113 ∷ 115 ∷ 127 ∷ 129 ∷ 131 ∷ [])
+  -- lshl, lshr, lushr: "value1 must be of type long, and value2 must be of type int"
+  pub threeToTwo : EachLeaves opaque locals (a ∷ b ∷ c ∷ d ∷ []) (a ∷ opaque 0 0 ∷ opaque 0 1 ∷ []) (121 ∷ 123 ∷ 125 ∷ [])
+  -- lcmp, dcmpl, dcmpg: an int
+  pub fourToOne : EachLeaves opaque locals (a ∷ b ∷ c ∷ d ∷ e ∷ []) (a ∷ opaque 0 0 ∷ []) (148 ∷ 151 ∷ 152 ∷ [])
+  -- ineg, fneg; i2f, f2i, i2b, i2c, i2s: "..., value → ..., result"
+  pub oneToOne : EachLeaves opaque locals (a ∷ b ∷ []) (a ∷ opaque 0 0 ∷ []) (116 ∷ 118 ∷ 134 ∷ 139 ∷ 145 ∷ 146 ∷ 147 ∷ [])
+  -- lneg, dneg; l2d, d2l
+  pub twoToTwo : EachLeaves opaque locals (a ∷ b ∷ c ∷ []) (a ∷ opaque 0 0 ∷ opaque 0 1 ∷ []) (117 ∷ 119 ∷ 138 ∷ 143 ∷ [])
+  -- i2l, i2d, f2l, f2d
+  pub oneToTwo : EachLeaves opaque locals (a ∷ b ∷ []) (a ∷ opaque 0 0 ∷ opaque 0 1 ∷ []) (133 ∷ 135 ∷ 140 ∷ 141 ∷ [])
+  -- l2i, l2f, d2i, d2f
+  pub longToOne : EachLeaves opaque locals (a ∷ b ∷ c ∷ []) (a ∷ opaque 0 0 ∷ []) (136 ∷ 137 ∷ 142 ∷ 144 ∷ [])
   -- iaload, aaload and laload: "..., arrayref, index → ..., value"; a long has two slots
   pub iaload : leaves opaque locals small (0x2e ∷ []) (a ∷ b ∷ c ∷ []) ≡ a ∷ opaque 0 0 ∷ []
   pub aaload : leaves opaque locals small (0x32 ∷ []) (a ∷ b ∷ c ∷ []) ≡ a ∷ opaque 0 0 ∷ []
   pub laload : leaves opaque locals small (0x2f ∷ []) (a ∷ b ∷ c ∷ []) ≡ a ∷ opaque 0 0 ∷ opaque 0 1 ∷ []
   pub aaloadFrom : dereferences opaque locals small (0x32 ∷ []) (a ∷ b ∷ c ∷ []) ≡ b ∷ []
-  -- aastore, dastore: "..., arrayref, index, value → ..."; a double has two slots
-  pub aastore : leaves opaque locals small (0x53 ∷ []) (a ∷ b ∷ c ∷ d ∷ []) ≡ a ∷ []
-  pub dastore : leaves opaque locals small (0x52 ∷ []) (a ∷ b ∷ c ∷ d ∷ e ∷ []) ≡ a ∷ []
+  -- iastore, fastore, aastore, bastore, castore, sastore; lastore, dastore: "..., arrayref, index, value → ..."
+  pub arrayStores : EachLeaves opaque locals (a ∷ b ∷ c ∷ d ∷ []) (a ∷ []) (79 ∷ 81 ∷ 83 ∷ 84 ∷ 85 ∷ 86 ∷ [])
+  pub wideStores : EachLeaves opaque locals (a ∷ b ∷ c ∷ d ∷ e ∷ []) (a ∷ []) (80 ∷ 82 ∷ [])
   pub dastoreTo : dereferences opaque locals small (0x52 ∷ []) (a ∷ b ∷ c ∷ d ∷ e ∷ []) ≡ b ∷ []
   -- getfield: "..., objectref → ..., value", of a field I and of a field J
   pub getfieldInt : leaves opaque locals small (0xb4 ∷ 0 ∷ 1 ∷ []) (a ∷ b ∷ []) ≡ a ∷ opaque 0 0 ∷ []

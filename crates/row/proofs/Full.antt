@@ -1,18 +1,20 @@
--- A row that document 01 models is that of the full model, and any other is among the rows that this adds.
+-- A row that document 01 models is that of both models, and any other of the full one is among the rows that this adds.
 -- Assumes nothing.
 use Prim.Native.Nat.{ℕ}
 use mathlib.Core.Path.{_≡_, refl, _∙_, sym, ap}
 use mathlib.Core.List.{List, [], _∷_}
 use types.Run.{OneOf, miss}
 use denote.Enum.Declared.{tagOf}
-use Rattle.effects.specs.Rows.{Row, orRow, rowOf, addedRow, fullRowOf}
+use Rattle.effects.specs.Rows.{Row, orRow, rowOf, addedRow, fullRowOf, rowsOf}
+use Rattle.effects.specs.declared.Model.{Model}
+use Rattle.effects.specs.declared.Model.the-variants.{Document, Full}
 use Rattle.row.specs.Code.{rowFrom}
 use Rattle.row.specs.declared.Row.{Row as CodeRow}
 use Rattle.row.specs.declared.Row.the-variants.{Unmodelled, Opaque, Aload, AloadOf, Copies, Swap, Keeps, Gets, Calls, Puts, Makes}
 use Rattle.row.proofs.Row.{the-type}
 
 -- the numbers of all variants but the first, Unmodelled
-abbrev pub someRow : List ℕ
+abbrev someRow : List ℕ
 someRow = 1 ∷ 2 ∷ 3 ∷ 4 ∷ 5 ∷ 6 ∷ 7 ∷ 8 ∷ 9 ∷ 10 ∷ []
 
 kept : (row : CodeRow) (other : Row) → OneOf someRow (tagOf the-type row) → rowFrom row ≡ orRow (rowFrom row) other
@@ -32,7 +34,9 @@ pub full-added : (op : ℕ) (row : CodeRow) → rowFrom row ≡ rowOf op → row
 unfolding fullRowOf
 full-added op row found e = ap (λ (r : Row). orRow r (addedRow op)) (ap rowFrom (sym e) ∙ found)
 
-pub full-kept :
-    (op : ℕ) (row : CodeRow) → rowFrom row ≡ rowOf op → OneOf someRow (tagOf the-type row) → rowFrom row ≡ fullRowOf op
+pub kept-in :
+    (model : Model) (op : ℕ) (row : CodeRow) → rowFrom row ≡ rowOf op → OneOf someRow (tagOf the-type row) →
+    rowFrom row ≡ rowsOf model op
 unfolding fullRowOf
-full-kept op row found o = kept row (addedRow op) o ∙ ap (λ (r : Row). orRow r (addedRow op)) found
+kept-in Document op row found o = found
+kept-in Full op row found o = kept row (addedRow op) o ∙ ap (λ (r : Row). orRow r (addedRow op)) found

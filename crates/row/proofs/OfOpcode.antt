@@ -78,14 +78,7 @@ module _ (rows : ℕ → Row) where
   all-have row a n t op from below = known (row op) op (every-from (λ k. is (row k) k) a n t op from below)
 
   -- the same where no arm of a match has the opcode as a key; the last arm comes first in the list
-  pub unkeyed-have :
-      (row : ℕ → Row) (arms : List (List ℕ)) (a n : ℕ) → T (every (λ k. orKey arms (λ op. is (row op) op) (a + k)) n) →
-      (op : ℕ) → a ≤ op → op < a + n → Unkeyed arms op → row op ≡ rows op
-  unkeyed-have row arms a n t op from below rest =
-      known (row op) op (every-unkeyed (λ k. is (row k) k) arms a n t op from below rest)
-
-  -- and where it is one row
   pub all-unkeyed :
       (row : Row) (arms : List (List ℕ)) (a n : ℕ) → T (every (λ k. orKey arms (is row) (a + k)) n) →
       (op : ℕ) → a ≤ op → op < a + n → Unkeyed arms op → row ≡ rows op
-  all-unkeyed row = unkeyed-have (λ op. row)
+  all-unkeyed row arms a n t op from below rest = known row op (every-unkeyed (is row) arms a n t op from below rest)

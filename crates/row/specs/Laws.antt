@@ -1,4 +1,4 @@
--- A row of the code is told by what it stands for, so `row_of` has one answer. Proved in proofs/Laws.antt.
+-- A row of the code is told by what it stands for, so `row_of` and `row_in` have one answer. Proved in proofs/Laws.antt.
 -- Assumes nothing.
 use mathlib.Core.Path.{_≡_}
 use Rattle.row.specs.Code.{rowFrom}

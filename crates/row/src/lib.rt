@@ -3,7 +3,7 @@ use effects::Model;
 use opcode::Opcode;
 ghost use mathlib.Core.Path.{_≡_};
 ghost use Prim.Native.Nat.{_<_, _≤_};
-ghost use Rattle.effects.specs.Rows.{rowOf, addedRow, fullRowOf, rowsOf};
+ghost use Rattle.effects.specs.Rows.{rowOf, addedRow, rowsOf};
 ghost use Rattle.row.specs.Code.{rowFrom};
 
 // What an opcode does to the slots.
@@ -88,7 +88,7 @@ pub fn row_of(op: u8) -> Row
     }
 }
 
-// The rows of arithmetic, 96 to 131: those of long and double have an odd number.
+// The rows of arithmetic, 96 to 131.
 fn arithmetic_row(op: u8) -> Row
     requires { ⌜ 96 ≤ op ⌝ }
     requires { ⌜ op < 132 ⌝ }
@@ -98,12 +98,20 @@ fn arithmetic_row(op: u8) -> Row
         Opcode::INEG | Opcode::FNEG => Row::Opaque { takes: 1, gives: 1 },
         Opcode::LNEG | Opcode::DNEG => Row::Opaque { takes: 2, gives: 2 },
         Opcode::LSHL | Opcode::LSHR | Opcode::LUSHR => Row::Opaque { takes: 3, gives: 2 },
-        _ => {
-            if op % 2 == 0 {
-                return Row::Opaque { takes: 2, gives: 1 };
-            }
-            Row::Opaque { takes: 4, gives: 2 }
-        }
+        Opcode::LADD
+        | Opcode::DADD
+        | Opcode::LSUB
+        | Opcode::DSUB
+        | Opcode::LMUL
+        | Opcode::DMUL
+        | Opcode::LDIV
+        | Opcode::DDIV
+        | Opcode::LREM
+        | Opcode::DREM
+        | Opcode::LAND
+        | Opcode::LOR
+        | Opcode::LXOR => Row::Opaque { takes: 4, gives: 2 },
+        _ => Row::Opaque { takes: 2, gives: 1 },
     }
 }
 
@@ -144,23 +152,15 @@ fn added_row(op: u8) -> Row
     }
 }
 
-// The row of an opcode in the full model.
-fn full_row(op: u8) -> Row
-    ensures { λ r. ⌜ rowFrom r ≡ fullRowOf op ⌝ }
-{
-    let row = row_of(op);
-    if let Row::Unmodelled = row {
-        return added_row(op);
-    }
-    row
-}
-
-// The row of an opcode in a model.
+// The row of an opcode in a model. Only one that document 01 does not model is looked for among the added ones.
 pub fn row_in(model: Model, op: u8) -> Row
     ensures { λ r. ⌜ rowFrom r ≡ rowsOf model op ⌝ }
 {
-    match model {
-        Model::Document => row_of(op),
-        Model::Full => full_row(op),
+    let row = row_of(op);
+    if let Row::Unmodelled = row {
+        if let Model::Full = model {
+            return added_row(op);
+        }
     }
+    row
 }
