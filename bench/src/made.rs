@@ -72,10 +72,13 @@ const STRAIGHT: [Unit; 6] = [
 const SOLVER: [Unit; 6] = [
     ("products of doubles", &[39, 41, 107, 72]), // dload_1, dload_3, dmul, dstore_1
     ("int sums, converted", &[27, 4, 96, 60, 27, 135, 72]), // iload_1, iconst_1, iadd, istore_1, iload_1, i2d, dstore_1
-    ("array loads and stores", &[42, 27, 43, 27, 49, 39, 99, 82]), // aload_0, iload_1, aload_1, iload_1, daload, dload_1, dadd, dastore
+    // aload_0, iload_1, aload_1, iload_1, daload, dload_1, dadd, dastore
+    ("array loads and stores", &[42, 27, 43, 27, 49, 39, 99, 82]),
     ("field sums", &[42, 89, 180, 0, 3, 39, 99, 181, 0, 3]), // aload_0, dup, getfield, dload_1, dadd, putfield
-    ("comparisons", &[39, 41, 151, 60, 30, 32, 148, 60]), // dload_1, dload_3, dcmpl, istore_1, lload_0, lload_2, lcmp, istore_1
-    ("counts in an array", &[42, 27, 92, 46, 91, 4, 96, 79, 60]), // aload_0, iload_1, dup2, iaload, dup_x2, iconst_1, iadd, iastore, istore_1
+    // dload_1, dload_3, dcmpl, istore_1, lload_0, lload_2, lcmp, istore_1
+    ("comparisons", &[39, 41, 151, 60, 30, 32, 148, 60]),
+    // aload_0, iload_1, dup2, iaload, dup_x2, iconst_1, iadd, iastore, istore_1
+    ("counts in an array", &[42, 27, 92, 46, 91, 4, 96, 79, 60]),
 ];
 
 fn long_method((_, unit): Unit, length: usize) -> Case {
@@ -87,14 +90,10 @@ pub fn straight_of(unit: usize, length: usize) -> Case {
     long_method(STRAIGHT[unit], length)
 }
 
-/// A long method of each unit that document 01's model walks, with what the unit does.
-pub fn straight_units(length: usize) -> Vec<(&'static str, Case)> {
-    STRAIGHT.iter().map(|unit| (unit.0, long_method(*unit, length))).collect()
-}
-
-/// A long method of each unit of solver code.
-pub fn solver_units(length: usize) -> Vec<(&'static str, Case)> {
-    SOLVER.iter().map(|unit| (unit.0, long_method(*unit, length))).collect()
+/// A long method of each unit, those that document 01's model walks first: what the unit does, and whether it cites members.
+pub fn long_methods(length: usize) -> Vec<(&'static str, bool, Case)> {
+    let cites = |unit: &[u8]| unit.iter().any(|byte| (178..=185).contains(byte));
+    STRAIGHT.iter().chain(&SOLVER).map(|unit| (unit.0, cites(unit.1), long_method(*unit, length))).collect()
 }
 
 /// Long methods without a branch.

@@ -57,6 +57,8 @@ pub fn of_group(group: &Group, rounds: usize, progress: &mut impl FnMut(&str)) -
 /// The walk of a long method: its instructions, and nanoseconds to each, without those of reading the case.
 pub struct Pace {
     pub name: &'static str,
+    /// Whether its code cites members, which takes longer.
+    pub cites: bool,
     pub instructions: u64,
     /// In document 01's model, where it walks the whole method.
     pub document: Option<f64>,
@@ -71,7 +73,7 @@ fn walked(manner: Manner, bytes: &[u8], fault: u64) -> Option<u64> {
     }
 }
 
-fn pace(name: &'static str, case: &Case, rounds: usize) -> Option<Pace> {
+fn pace((name, cites, case): &(&'static str, bool, Case), rounds: usize) -> Option<Pace> {
     let (bytes, fault) = (case.bytes()?, u64::from(case.fault));
     let [document, full] = models();
     let instructions = walked(full, &bytes, fault)?;
@@ -87,15 +89,14 @@ fn pace(name: &'static str, case: &Case, rounds: usize) -> Option<Pace> {
     } else {
         (alone(rounds, || walk(full, 0)), None)
     };
-    Some(Pace { name, instructions, document: by_document.map(each), full: each(by_full) })
+    Some(Pace { name, cites: *cites, instructions, document: by_document.map(each), full: each(by_full) })
 }
 
 /// The walk's pace through long methods of so many bytes: those that both models walk, then solver code.
 pub fn paces(length: usize, rounds: usize, progress: &mut impl FnMut(&str)) -> Vec<Pace> {
-    let units = made::straight_units(length).into_iter().chain(made::solver_units(length));
-    let mut pace = |(name, case): (&'static str, Case)| {
-        progress(&format!("the walk's pace: {name}"));
-        pace(name, &case, rounds)
+    let mut of_method = |method: &(&'static str, bool, Case)| {
+        progress(&format!("the walk's pace: {}", method.0));
+        pace(method, rounds)
     };
-    units.filter_map(&mut pace).collect()
+    made::long_methods(length).iter().filter_map(&mut of_method).collect()
 }

@@ -115,27 +115,25 @@ pub fn in_both(groups: &[InBoth]) -> String {
     laid_out(&head, &groups.iter().map(cells).collect::<Vec<_>>())
 }
 
-/// One line a long method. Solver code is set against the median pace of document 01's model.
+/// The median pace of document 01's model through code that cites members, or through code that cites none.
+fn usual_pace(paces: &[Pace], cites: bool) -> f64 {
+    median(paces.iter().filter(|pace| pace.cites == cites).filter_map(|pace| pace.document))
+}
+
+/// One line a long method. Solver code is set against the median of document 01's model through code of its sort.
 pub fn paces(paces: &[Pace]) -> String {
-    let head = ["straight-line code", "instructions", "document 01's", "full", "full / document 01's"];
-    let usual = median(paces.iter().filter_map(|pace| pace.document));
+    let head = ["straight-line code", "cites members", "instructions", "document 01's", "full", "full / document 01's"];
     let cells = |pace: &Pace| {
         vec![
             pace.name.to_string(),
+            if pace.cites { "yes" } else { "no" }.to_string(),
             grouped(pace.instructions as usize),
             pace.document.map_or("-".to_string(), duration),
             duration(pace.full),
-            ratio(pace.full / pace.document.unwrap_or(usual)),
+            ratio(pace.full / pace.document.unwrap_or_else(|| usual_pace(paces, pace.cites))),
         ]
     };
-    let solver = median(paces.iter().filter(|pace| pace.document.is_none()).map(|pace| pace.full));
-    let table = laid_out(&head, &paces.iter().map(cells).collect::<Vec<_>>());
-    format!(
-        "{table}\nThe median in document 01's model is {}, of solver code in the full one {}: {} times as long.\n",
-        duration(usual),
-        duration(solver),
-        ratio(solver / usual)
-    )
+    laid_out(&head, &paces.iter().map(cells).collect::<Vec<_>>())
 }
 
 /// An earlier build of the library, and this one.
