@@ -1,4 +1,4 @@
--- Cells once more, below others: dup, dup_x1, dup_x2, dup2, dup2_x1, dup2_x2 of JVMS 6.5 over cells, with the length of the list.
+-- Cells once more, below others: what dup, dup_x1, dup_x2, dup2, dup2_x1 and dup2_x2 of JVMS 6.5 do to the first cells of a stack.
 -- Assumes nothing.
 use Prim.Native.Nat.{ℕ, _+_, _-_}
 use mathlib.Core.List.{List, _++_}
@@ -12,8 +12,8 @@ copied cells height count under =
     take (height - (count + under)) cells
     ++ (drop (height - count) (take height cells) ++ drop (height - (count + under)) (take height cells))
 
--- they stand in the place of so many cells, where there are as many; the cells behind them are as they were, and all where there
--- are too few
+-- These are written over the first cells, and those behind them stay. Where fewer than `count + under` cells are among the first, or
+-- the stack has no room for `count` more, all stay.
 unfoldable pub copiedBelow : List ℕ → ℕ → ℕ → ℕ → List ℕ
 copiedBelow cells height count under =
     pick (leb (count + under) height)

@@ -19,11 +19,11 @@ use Rattle.action.specs.Action.{actionText}
 use Rattle.answer.specs.Answer.{said}
 use Rattle.report.specs.Report.{scanOf, saidFrom, saidIn}
 use Rattle.report.specs.declared.Manner.{Manner}
-use Rattle.evidence.specs.Reserved.{documentSaid, ReservedReport}
+use Rattle.evidence.specs.Reserved.{saidByDocument, ReservedReport}
 use Rattle.evidence.proofs.Kind.{kind-two-in, plain}
 
 module _ (manner : Manner) (p : Parts) (room : ℕ) where
-  said-alike : scanOf p ≡ blockLeader documentLength [] (p .code) (p .fault) → saidIn manner p room ≡ documentSaid manner p room
+  said-alike : scanOf p ≡ blockLeader documentLength [] (p .code) (p .fault) → saidIn manner p room ≡ saidByDocument manner p room
   unfolding saidIn
   said-alike same =
       ap (λ (x : Scan). saidFrom manner x p room (decoded (p .code) (p .members) (p .memberCount) (p .fault))) same
@@ -40,7 +40,7 @@ module _ (manner : Manner) (p : Parts) (room : ℕ) where
 
   same-name :
       (message : List ℕ) (scan block : ℕ) → saidIn manner p room ≡ said message 2 scan block →
-      documentSaid manner p room ≡ said message 2 scan block
+      saidByDocument manner p room ≡ said message 2 scan block
   same-name message scan block told =
       let c = kind-two-in manner .only p room message scan block told in
       let leads = led-by-document .sameLeader length-rule [] (p .code) (p .fault) (c .leader) scan (c .leads) in

@@ -21,14 +21,14 @@ use Rattle.report.specs.Report.{saidFrom, saidIn}
 use Rattle.report.specs.declared.Manner.{Manner}
 
 -- what is said by document 01's own lengths
-abbrev pub documentSaid : Manner → Parts → ℕ → Said
-documentSaid manner p room =
+abbrev pub saidByDocument : Manner → Parts → ℕ → Said
+saidByDocument manner p room =
     saidFrom manner (blockLeader documentLength [] (p .code) (p .fault)) p room
     (decoded (p .code) (p .members) (p .memberCount) (p .fault))
 
 pub record ReservedReport (manner : Manner) : Type 0 where
   -- where the scan meets none, the report is document 01's
-  pub unmoved : (p : Parts) (room : ℕ) → MeetsNone (p .code) → saidIn manner p room ≡ documentSaid manner p room
+  pub unmoved : (p : Parts) (room : ℕ) → MeetsNone (p .code) → saidIn manner p room ≡ saidByDocument manner p room
   -- where it meets one, before the fault or behind it, the report is the action alone. The scan count is that of the instructions before
   -- the byte, the block count 0, whatever room there is.
   pub actionAlone :
@@ -39,4 +39,4 @@ pub record ReservedReport (manner : Manner) : Type 0 where
   -- no name is new: one that is given is document 01's, with message and counts
   pub sameName :
       (p : Parts) (room : ℕ) (message : List ℕ) (scan block : ℕ) →
-      saidIn manner p room ≡ said message 2 scan block → documentSaid manner p room ≡ said message 2 scan block
+      saidIn manner p room ≡ said message 2 scan block → saidByDocument manner p room ≡ said message 2 scan block

@@ -4,7 +4,6 @@ use cell::clear;
 use descriptor::Params;
 use effects::Model;
 use items::part_at;
-use report::Manner;
 use structs::KorsepalLeader;
 use structs::KorsepalLength;
 use structs::KorsepalName;
@@ -64,8 +63,7 @@ pub extern "C" fn korsepal_report_full(
     ensures leaves { λ r. ⌜ now (output .exit) ≡ reportedBy fullManner (now (case .entry)) (length (now (stack .entry))) (now (output .entry)) ⌝ }
     ensures clears { λ r. ⌜ now (stack .exit) ≡ replicate (length (now (stack .entry))) 0 ⌝ }
 {
-    let manner = Manner { model: Model::Full };
-    let answer = report::build_message_in(manner, case, stack, output);
+    let answer = report::build_message_in(report::full_manner(), case, stack, output);
     report_numbers(answer)
 }
 

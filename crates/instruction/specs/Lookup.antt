@@ -20,10 +20,11 @@ abbrev pub citedTexts : List ℕ → ℕ → List ℕ → List ℕ → ℕ → �
 citedTexts members count table code pc kind =
     pick (ltb (pc + 2) (length code)) (foundBy members count table (u16At code (pc + 1)) kind) []
 
--- the slots of the field that it cites; none where the pool index is cut or there is no such field
+-- the slots of a field, as far as it is known
 abbrev pub slotsKnown : Known → Slots
 slotsKnown missing = NoSlots
 slotsKnown (known descriptor) = SlotsOf (fieldSlots descriptor)
 
+-- of the field that the instruction at an index cites; none where the pool index is cut or there is no such field
 abbrev pub citedSlots : Lookup → List ℕ → ℕ → Slots
 citedSlots lookup code pc = pick (ltb (pc + 2) (length code)) (slotsKnown (lookup 0 (u16At code (pc + 1)))) NoSlots

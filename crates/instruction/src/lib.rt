@@ -92,7 +92,7 @@ fn get_effect(
     Effect::Opaque { takes, gives }
 }
 
-// The effect of writing it.
+// The effect of writing the field that the instruction at pc cites.
 fn put_effect(
     code: &[u8],
     members: &[u8],
@@ -179,7 +179,13 @@ pub fn effect_of(
         Row::Opaque { takes, gives } => Effect::Opaque { takes, gives },
         Row::Aload => load_effect(code, pc),
         Row::AloadOf { local } => Effect::Load { local },
-        Row::Copies { count: n, under } => Effect::Copies { count: n, under },
+        Row::Copies {
+            count: copies,
+            under,
+        } => Effect::Copies {
+            count: copies,
+            under,
+        },
         Row::Swap => Effect::Swap,
         Row::Keeps => Effect::Opaque { takes: 0, gives: 0 },
         Row::Gets { takes } => get_effect(code, members, count, table, pc, takes),

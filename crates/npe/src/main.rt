@@ -2,7 +2,6 @@
 // that the answer carries. The word --full asks for the full model.
 use answer::Report;
 use check::same;
-use effects::Model;
 use libc::STDERR_FILENO;
 use libc::STDIN_FILENO;
 use libc::STDOUT_FILENO;
@@ -109,7 +108,7 @@ fn main() {
     }
     if words == 2 {
         if is_word(1, b"--full") {
-            report_input(Manner { model: Model::Full });
+            report_input(report::full_manner());
             return;
         }
     }

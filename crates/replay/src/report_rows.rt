@@ -1,7 +1,6 @@
 // Rows on whole cases: the lines that the program prints.
 use answer::Report;
 use check::same;
-use effects::Model;
 use items::part_at;
 use notation::first_bytes;
 use notation::first_numbers;
@@ -66,17 +65,13 @@ fn example(out: &mut [u8], manner: Manner, case: &[u8], stored: &[u8]) -> Told {
     told_with(end, 1, 0, 0, 0)
 }
 
-fn full() -> Manner {
-    Manner { model: Model::Full }
-}
-
 // What the library answers to a row about a case. A kind that is none of these has no answer.
 pub fn tell(out: &mut [u8], kind: usize, x: &[u8], y: &[u8], a: usize, b: usize) -> Told {
     match kind {
         17 => report(out, report::document_manner(), x, a, b),
-        18 => report(out, full(), x, a, b),
+        18 => report(out, report::full_manner(), x, a, b),
         19 => example(out, report::document_manner(), x, y),
-        20 => example(out, full(), x, y),
+        20 => example(out, report::full_manner(), x, y),
         _ => nothing(),
     }
 }

@@ -12,7 +12,7 @@ use trace::trace_cause;
 ghost use mathlib.Core.Path.{_≡_};
 ghost use lib.ListN.{length, replicate};
 ghost use Rattle.answer.specs.Answer.{Delivered};
-ghost use Rattle.report.specs.Report.{documentManner, partsBy, saidIn, saidOf, reportIn, reportedBy, reportOf, reportedIn};
+ghost use Rattle.report.specs.Report.{documentManner, fullManner, partsBy, saidIn, saidOf, reportIn, reportedBy, reportOf, reportedIn};
 
 // How a report is asked for.
 pub struct Manner {
@@ -27,6 +27,13 @@ pub fn document_manner() -> Manner
     Manner {
         model: Model::Document,
     }
+}
+
+// That of the full model.
+pub fn full_manner() -> Manner
+    ensures { λ r. ⌜ r ≡ fullManner ⌝ }
+{
+    Manner { model: Model::Full }
 }
 
 // Reports in a manner on the parts of a case: flags and fault, code, signature, and so many members and records.

@@ -41,7 +41,7 @@ pub record Described (lookup : Lookup) (pool : Pool) (code : List ℕ) (pc : ℕ
       T (between 182 185 (byteAt code pc)) → (d : List ℕ) → lookup 1 (u16At code (pc + 1)) ≡ known d →
       (d ≡ renderMethod (pool .method (u16At code (pc + 1)))) × WellFormedMethod (pool .method (u16At code (pc + 1)))
 
--- the parts of a case, and what `block_leader` and `simulate_block` answer of them
+-- the parts of a case, and what `block_leader` and, in a model, `simulate_block_in` answer of them
 pub record Findings : Type 0 where
   -- the model of the walk
   pub model : Model

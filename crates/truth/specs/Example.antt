@@ -42,7 +42,7 @@ worked =
       stack = 1 ∷ 3330 ∷ 0 ∷ 0 ∷ [];
     }
 
--- The full model, on a block "that holds arithmetic, a store and a dup form" (document 02, request 1), Java's
+-- The full model (document 02, request 1), on a block with arithmetic, a store and a form of dup that document 01 leaves out, Java's
 -- `a.f = (a = b).f = v * v`: aload_0, aload_1, dup, astore_0, lload_2, lload_2, lmul, dup2_x1, putfield J, and the fault, putfield J.
 -- The cause is local 0 as loaded at 0, though a store to local 0 lies between.
 abbrev pub fullWorked : Findings
@@ -56,7 +56,7 @@ fullWorked =
       leader = 0;
       height = 3;
       count = 9;
-      -- the load of local 0 at 0, and the product under the second field to be written
+      -- the load of local 0 at 0, and on it the product, which the fault would write
       stack = 1 ∷ 0 ∷ 0 ∷ 0 ∷ 0 ∷ 0 ∷ [];
     }
 

@@ -1,4 +1,4 @@
-// Document 01's walk of a block: the rule stands in specs/, and here is what a walk answers.
+// The walk of a block: the rule stands in specs/, and here is what a walk answers.
 pub enum Walk {
     // The fault was reached: the height of the list, and how many instructions were completed.
     Done { height: usize, count: usize },

@@ -50,8 +50,8 @@ load-effect-requires c κs = search needs
 enum-known-local : tie.Need-enum-known-local
 enum-known-local c = search needs
 
-enum-known-n : tie.Need-enum-known-n
-enum-known-n c = search needs
+enum-known-copies : tie.Need-enum-known-copies
+enum-known-copies c = search needs
 
 enum-told-3 : tie.Need-enum-told-3
 enum-told-3 c = search needs
@@ -104,7 +104,7 @@ returns-4 : tie.Need-returns-4
 returns-4 c = by-row (c .before .before .before) _ _ (c .before .local .given .1) refl
 
 returns-5 : tie.Need-returns-5
-returns-5 c = by-row (c .before .before .before) _ _ (c .before .n .given .1) refl
+returns-5 c = by-row (c .before .before .before) _ _ (c .before .copies .given .1) refl
 
 returns-6 : tie.Need-returns-6
 returns-6 c = by-row (c .before .before) _ _ (c .enum-told3 .given .1) refl
@@ -134,7 +134,7 @@ effect-of-spec =
     enum-told-2
     load-effect-requires
     enum-known-local
-    enum-known-n
+    enum-known-copies
     enum-told-3
     enum-told-4
     enum-known-takes-2
