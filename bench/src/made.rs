@@ -81,6 +81,14 @@ const SOLVER: [Unit; 6] = [
     ("counts in an array", &[42, 27, 92, 46, 91, 4, 96, 79, 60]),
 ];
 
+/// Units that differ in one opcode, the one named: document 01's, and one that the full model adds, which takes and gives as many slots.
+const ALIKE: [(Unit, Unit); 4] = [
+    (("iaload", &[27, 28, 46, 87]), ("iadd", &[27, 28, 96, 87])), // iload_1, iload_2, the opcode, pop
+    (("laload", &[27, 28, 47, 88]), ("lneg", &[27, 28, 117, 88])), // iload_1, iload_2, the opcode, pop2
+    (("arraylength", &[27, 190, 87]), ("ineg", &[27, 116, 87])), // iload_1, the opcode, pop
+    (("pop", &[27, 87]), ("monitorenter", &[27, 194])), // iload_1, the opcode
+];
+
 fn long_method((_, unit): Unit, length: usize) -> Case {
     ended(repeated(unit, length), few_members())
 }
@@ -94,6 +102,12 @@ pub fn straight_of(unit: usize, length: usize) -> Case {
 pub fn long_methods(length: usize) -> Vec<(&'static str, bool, Case)> {
     let cites = |unit: &[u8]| unit.iter().any(|byte| (178..=185).contains(byte));
     STRAIGHT.iter().chain(&SOLVER).map(|unit| (unit.0, cites(unit.1), long_method(*unit, length))).collect()
+}
+
+/// Long methods of the units that differ in one opcode.
+pub fn alike_methods(length: usize) -> Vec<[(&'static str, bool, Case); 2]> {
+    let method = |unit: Unit| (unit.0, false, long_method(unit, length));
+    ALIKE.iter().map(|&(document, full)| [method(document), method(full)]).collect()
 }
 
 /// Long methods without a branch.

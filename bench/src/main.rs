@@ -68,6 +68,7 @@ struct Results {
     parts: Vec<(String, parts::Parts)>,
     in_both: Vec<models::InBoth>,
     paces: Vec<models::Pace>,
+    alike: Vec<[models::Pace; 2]>,
     names: Vec<(String, Option<clock::Times>)>,
     curves: Vec<growth::Curve>,
     hostile: Vec<growth::Hostile>,
@@ -87,11 +88,13 @@ fn rows_of(group: &groups::Group, plan: &Plan) -> Vec<groups::Row> {
 fn measure(plan: &Plan) -> Results {
     progress("preparing the cases");
     let groups = groups::all(plan);
+    let longest = plan.lengths.last().copied().unwrap_or(made::LONGEST);
     Results {
         rows: groups.iter().flat_map(|group| rows_of(group, plan)).collect(),
         parts: groups.iter().map(|group| (group.name.clone(), parts::of_group(group, 3, &mut progress))).collect(),
         in_both: groups.iter().map(|group| models::of_group(group, plan.rounds, &mut progress)).collect(),
-        paces: models::paces(plan.lengths.last().copied().unwrap_or(made::LONGEST), plan.rounds, &mut progress),
+        paces: models::paces(longest, plan.rounds, &mut progress),
+        alike: models::alike(longest, plan.rounds, &mut progress),
         names: names::measure(plan.rounds, &mut progress),
         curves: growth::curves(plan.rounds, &mut progress),
         hostile: growth::hostile(plan.hostile, plan.rounds, &mut progress),
@@ -131,7 +134,9 @@ fn page(plan: &Plan, results: &Results) -> String {
         "others. The ratio is a group's median, then its greatest.\n\n",
         &table::paces(&results.paces),
         "\nThe walk alone, to the instruction, without the time of reading the case. Where document 01's model gives up, its median\n",
-        "through code that cites members, or through code that cites none, stands for it in the ratio.\n",
+        "through code that cites members, or through code that cites none, stands for it in the ratio.\n\n",
+        &table::alike(&results.alike),
+        "\nThe same, of units that differ in one opcode, each of which takes and gives as many slots.\n",
         "\n### Names made of a number\n\n",
         &table::names(&results.names),
         "\nThe name alone, of a local without a record: the library from the bytes of a case, the Rust from prepared objects.\n",

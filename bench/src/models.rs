@@ -100,3 +100,9 @@ pub fn paces(length: usize, rounds: usize, progress: &mut impl FnMut(&str)) -> V
     };
     made::long_methods(length).iter().filter_map(&mut of_method).collect()
 }
+
+/// The pace through methods that differ in one opcode: of document 01's in its model, and of the added one in the full model.
+pub fn alike(length: usize, rounds: usize, progress: &mut impl FnMut(&str)) -> Vec<[Pace; 2]> {
+    progress("the walk's pace: opcodes of as many slots");
+    made::alike_methods(length).iter().filter_map(|[one, other]| Some([pace(one, rounds)?, pace(other, rounds)?])).collect()
+}

@@ -136,6 +136,22 @@ pub fn paces(paces: &[Pace]) -> String {
     laid_out(&head, &paces.iter().map(cells).collect::<Vec<_>>())
 }
 
+/// One line a pair of opcodes.
+pub fn alike(pairs: &[[Pace; 2]]) -> String {
+    let head = ["document 01's opcode", "added opcode", "in document 01's model", "in the full model", "full / document 01's"];
+    let cells = |[one, other]: &[Pace; 2]| {
+        let document = one.document.unwrap_or(f64::NAN);
+        vec![
+            one.name.to_string(),
+            other.name.to_string(),
+            duration(document),
+            duration(other.full),
+            ratio(other.full / document),
+        ]
+    };
+    laid_out(&head, &pairs.iter().map(cells).collect::<Vec<_>>())
+}
+
 /// An earlier build of the library, and this one.
 #[cfg(before)]
 pub fn moved(lines: &[Moved]) -> String {
