@@ -2,13 +2,14 @@
  *
  * Every function takes any input, ends, and touches nothing but the memory that it is lent. A slice is two arguments, a
  * pointer and a count. Nothing is allocated and nothing is kept.
- * "Document 01" is the customer's requirements; the numbers are those of its "Numbers returned". A number that is not named
+ * "Document 01" is the customer's requirements, "document 02" their later requests; the numbers are those of its "Numbers returned". A number that is not named
  * for an answer is 0.
  *
  * A report and a walk are had in one of two models, which the caller chooses by the function's name. Document 01's model gives
  * up at an instruction that it does not list: korsepal_report, korsepal_walk. The full model walks on through arithmetic,
  * conversions, comparisons, stores to arrays and fields, dup_x1 to dup2_x2, monitors and multianewarray (document 02, request
- * 1), so it names a null more often: korsepal_report_full, korsepal_walk_full, with the same arguments and results.
+ * 1), so it names a null more often: korsepal_report_full, korsepal_walk_full, with the same arguments and results. It too gives up
+ * at branches, invokedynamic, wide, and an array of no dimension.
  *
  * Results are structs by value, laid out as C lays them out: numbers of 32 bits at 4-byte places, of 64 bits at 8-byte places,
  * in the order written here. Their sizes stand at the end of this file. */
@@ -43,8 +44,8 @@ typedef struct {
 korsepal_report_result korsepal_report(const uint8_t *bytes, size_t bytes_count, uint64_t *stack, size_t stack_count,
                                        uint8_t *output, size_t output_count);
 
-/* The same in the full model. A cause that korsepal_report gives is given here too, in the same words, unless the answer is 3:
- * it may come where document 01's model gave up before, at an instruction behind that place. */
+/* The same in the full model. With as much stack and output, a cause that korsepal_report gives is given here in the same words.
+ * Answer 3 may come where document 01's model gave up before, at an instruction behind that place. */
 korsepal_report_result korsepal_report_full(const uint8_t *bytes, size_t bytes_count, uint64_t *stack, size_t stack_count,
                                             uint8_t *output, size_t output_count);
 

@@ -119,7 +119,7 @@ fn model_rows() -> Vec<(Parts, usize, &'static str, &'static str)> {
         (bare(&[0x2a, 4, 4, 0xc5, 0, 1, 2, 0x57, 0xbe], 8, b""), 8, "0 1 6 3 ~", "0 2 6 5 ~^0"),
         (bare(&[0x2a, 4, 4, 0xc5, 0, 1, 0, 0x57, 0xbe], 8, b""), 8, "0 1 6 3 ~", "0 1 6 3 ~"),
         (bare(&[4, 0xc5, 0, 1, 2, 0x57, 0xbe], 6, b""), 8, "0 1 4 1 ~", "0 1 4 1 ~"),
-        // invokedynamic, wide and athrow are in neither.
+        // invokedynamic and wide are in neither.
         (bare(&[0x2a, 0xba, 0, 1, 0, 0, 0xbe], 6, b""), 8, "0 1 3 1 ~", "0 1 3 1 ~"),
         (bare(&[0xc4, 0x19, 0, 0, 0xbe], 4, b""), 8, "0 1 2 0 ~", "0 1 2 0 ~"),
         // Room is missed where document 01's model gave up before.

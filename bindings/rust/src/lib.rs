@@ -50,7 +50,7 @@ pub enum Answer<'a> {
     TooLong,
 }
 
-/// A number that the library at hand does not answer: the crate is older than the archive that it was linked with.
+/// A number that this crate does not know: it is older than the archive that it was linked with.
 fn unknown(what: &str, number: u32) -> ! {
     panic!("this crate knows no {what} {number}: it is older than its archive")
 }
@@ -214,8 +214,9 @@ pub fn parameters<'a>(descriptor: &[u8], output: &'a mut [u8]) -> Parameters<'a>
     };
     match r.status {
         0 => Parameters::Read { list: &output[..r.length as usize], slots: r.slots },
+        1 => Parameters::Unreadable,
         4 => Parameters::NoOutput { needed: r.length },
-        _ => Parameters::Unreadable,
+        number => unknown("status", number),
     }
 }
 

@@ -7,8 +7,6 @@ use mathlib.Core.Path.{_≡_, refl}
 use mathlib.Core.List.{List, [], _∷_}
 use lib.Dec.{eqb, leb, ltb, lit≤}
 use lib.ListN.{length}
-use Rattle.basics.specs.Bytes.{AreBytes}
-use Rattle.basics.specs.Choice.{pick}
 use Rattle.basics.proofs.Choice.{chosen}
 use Rattle.bytecode.specs.Length.{lengthOf}
 use Rattle.bytecode.specs.declared.Measure.{Measure}

@@ -1,7 +1,7 @@
 -- The kind and the counts of an answer (document 01, "Numbers returned"): of every case they are small numbers, since its code has
 -- at most 65,535 bytes. In every manner.
 -- Assumes nothing.
-use Prim.Native.Nat.{ℕ, _≤_, _<_}
+use Prim.Native.Nat.{ℕ, _≤_}
 use mathlib.Core.List.{List}
 use Rattle.basics.specs.Bytes.{AreBytes}
 use Rattle.number.specs.Number.{greatest}

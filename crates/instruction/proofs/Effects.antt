@@ -5,7 +5,7 @@ use native.Mathlib.Omega.{arith}
 use mathlib.Core.Path.{_≡_, refl, _∙_, sym, ap}
 use mathlib.Core.Bool.{Bool, true, false}
 use mathlib.Core.List.{List, []}
-use lib.Dec.{eqb, ltb}
+use lib.Dec.{ltb}
 use lib.ListN.{length}
 use borrow.Author.Tests.{lt-ltb, le-ltb, eq-eqb, ne-eqb}
 use Rattle.basics.specs.Bytes.{byteAt, u16At}
@@ -13,7 +13,6 @@ use Rattle.basics.specs.Choice.{pick}
 use Rattle.fieldtype.specs.declared.Found.the-variants.{At}
 use Rattle.descriptor.specs.Readers.{parameters, slotsBehind, fieldSlots}
 use Rattle.descriptor.specs.declared.Params.the-variants.{Read, Unreadable as NoParams}
-use Rattle.descriptor.specs.declared.Slots.{Slots}
 use Rattle.descriptor.specs.declared.Slots.the-variants.{Slots as SlotsOf, Unreadable as NoSlots}
 use Rattle.descriptor.proofs.Return.{behind-end}
 use Rattle.items.specs.Text.{descriptorOf}

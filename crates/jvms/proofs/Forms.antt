@@ -6,7 +6,6 @@ use mathlib.Core.Bool.{Bool, true, false}
 use mathlib.Core.Logic.{⊎-elim}
 use mathlib.Core.List.{List, [], _∷_, _++_, List·Memᴰ, List·Memᴰ·not-nil, List·Memᴰ·cases-cons}
 use lib.Dec.{T, eqb}
-use lib.ListN.{take, drop}
 use borrow.Author.Tests.{eqb-true}
 use Rattle.basics.specs.Choice.{pick, oneOf}
 use Rattle.basics.proofs.Choice.{chosen}

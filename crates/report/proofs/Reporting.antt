@@ -4,7 +4,6 @@ use Prim.Native.Nat.{ℕ}
 use mathlib.Core.Bool.{Bool}
 use mathlib.Core.List.{List}
 use mathlib.Core.Path.{_≡_}
-use lib.ListN.{length}
 use Rattle.cell.specs.declared.Slot.{Slot}
 use Rattle.casefile.specs.Parts.{Parts}
 use Rattle.fault.specs.Decoding.{decoded}

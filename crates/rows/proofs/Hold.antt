@@ -67,4 +67,4 @@ rows-hold =
     & refl & refl & refl & refl & refl & refl & refl & refl & refl & refl & refl & refl
     & refl & refl & refl & refl & refl & refl & refl & refl & refl & refl & refl & refl
     & refl & refl & refl & refl & refl & refl & refl & refl & refl & refl & refl & refl
-    & refl & refl & none
+    & refl & refl & refl & refl & refl & refl & none

@@ -54,11 +54,17 @@ copying2X1 = static 8 (0x2a ∷ 0x2b ∷ 0x2c ∷ 0x5d ∷ 0x57 ∷ 0x57 ∷ 0x5
 abbrev pub copying2X2 : List ℕ
 copying2X2 = static 10 (0x2a ∷ 0x2b ∷ 0x2c ∷ 0x2d ∷ 0x5e ∷ 0x57 ∷ 0x57 ∷ 0x57 ∷ 0x57 ∷ 0x57 ∷ 0xbe ∷ [])
 
--- aload_0, aload_1, lconst_1, putfield 1, which is a field J; the class and the field are named a and f
+-- a fault and a code with a field 1 J; the class and the field are named a and f
+abbrev pub withLong : ℕ → List ℕ → List ℕ
+withLong fault code =
+    8 ∷ fault ∷ length code ∷ (code ++ (0 ∷ 1 ∷ 1 ∷ 0 ∷ 1 ∷ 97 ∷ 1 ∷ 102 ∷ 1 ∷ 74 ∷ 0 ∷ []))
+
+-- aload_0, aload_1, lconst_1, putfield 1; aload_0, lconst_1, putstatic 1
 abbrev pub storing : List ℕ
-storing =
-    8 ∷ 6 ∷ 7 ∷ 0x2a ∷ 0x2b ∷ 0x0a ∷ 0xb5 ∷ 0x00 ∷ 0x01 ∷ 0xbe
-    ∷ 0 ∷ 1 ∷ 1 ∷ 0 ∷ 1 ∷ 97 ∷ 1 ∷ 102 ∷ 1 ∷ 74 ∷ 0 ∷ []
+storing = withLong 6 (0x2a ∷ 0x2b ∷ 0x0a ∷ 0xb5 ∷ 0x00 ∷ 0x01 ∷ 0xbe ∷ [])
+
+abbrev pub storingStatic : List ℕ
+storingStatic = withLong 5 (0x2a ∷ 0x0a ∷ 0xb3 ∷ 0x00 ∷ 0x01 ∷ 0xbe ∷ [])
 
 -- aload_0, iconst_1, iconst_1, multianewarray of so many dimensions, pop
 abbrev pub making : ℕ → List ℕ
@@ -183,9 +189,14 @@ rows =
     reports storing 8 60 (0 ∷ 28 ∷ 1 ∷ 5 ∷ 3 ∷ []) ∷
     reportsIn fullManner storing 8 60 (0 ∷ 55 ∷ 2 ∷ 5 ∷ 4 ∷ []) ∷
     writesIn fullManner storing 8 (ascii "Cannot read the array length because \"<local0>\" is null") ∷
+    -- putstatic J takes two, and no receiver
+    reports storingStatic 8 60 (0 ∷ 28 ∷ 1 ∷ 4 ∷ 2 ∷ []) ∷
+    reportsIn fullManner storingStatic 8 60 (0 ∷ 55 ∷ 2 ∷ 4 ∷ 3 ∷ []) ∷
+    writesIn fullManner storingStatic 8 (ascii "Cannot read the array length because \"<local0>\" is null") ∷
     -- multianewarray takes as many as it has dimensions; "dimension 0 fails"
     reports (making 2) 8 60 (0 ∷ 28 ∷ 1 ∷ 6 ∷ 3 ∷ []) ∷
     reportsIn fullManner (making 2) 8 60 (0 ∷ 55 ∷ 2 ∷ 6 ∷ 5 ∷ []) ∷
+    writesIn fullManner (making 2) 8 (ascii "Cannot read the array length because \"<local0>\" is null") ∷
     reports (making 0) 8 60 (0 ∷ 28 ∷ 1 ∷ 6 ∷ 3 ∷ []) ∷
     reportsIn fullManner (making 0) 8 60 (0 ∷ 28 ∷ 1 ∷ 6 ∷ 3 ∷ []) ∷
     -- "3 may now come where the old model gave up earlier", here of two cells

@@ -2,9 +2,7 @@
 -- Assumes nothing.
 use Prim.Native.Nat.{_+_, _-_, _^_, _<_}
 use native.Mathlib.Omega.{arith}
-use mathlib.Core.Path.{sym}
 use lib.ListN.{length}
-use lib.Seq.{length-take-le}
 use borrow.Author.Needs.{needs}
 use Rattle.basics.specs.Bytes.{AreBytes}
 use Rattle.effects.specs.Rows.{rowsOf}
