@@ -4,6 +4,7 @@ use Prim.Native.Nat.{ℕ}
 use mathlib.Core.List.{List}
 use lib.ListN.{replicate}
 use Rattle.effects.specs.declared.Model.{Model}
+use Rattle.effects.specs.declared.Model.the-variants.{Document}
 use Rattle.walk.specs.Room.{Roomed, blockWalkIn, answerOf, cellsOf}
 use Rattle.casefile.specs.Parts.{Parts, partsOf}
 use Rattle.casefile.specs.declared.Case.{Case}
@@ -25,17 +26,24 @@ use Rattle.structs.specs.declared.KorsepalWalk.{KorsepalWalk}
 abbrev pub walkIn : Model → Parts → ℕ → ℕ → ℕ → Roomed ℕ
 walkIn model p leader fault room = blockWalkIn model (p .code) (p .members) (p .memberCount) leader fault room
 
-abbrev pub caseWalk : Model → List ℕ → ℕ → ℕ → ℕ → Case → KorsepalWalk
-caseWalk model bytes leader fault room (cases.Parts places) =
+abbrev pub caseWalkIn : Model → List ℕ → ℕ → ℕ → ℕ → Case → KorsepalWalk
+caseWalkIn model bytes leader fault room (cases.Parts places) =
     walkNumbers (answerOf (walkIn model (partsOf bytes places) leader fault room))
-caseWalk model bytes leader fault room (cases.Wrong offset) = unread (cases.Wrong offset)
-caseWalk model bytes leader fault room cases.TooLong = unread cases.TooLong
+caseWalkIn model bytes leader fault room (cases.Wrong offset) = unread (cases.Wrong offset)
+caseWalkIn model bytes leader fault room cases.TooLong = unread cases.TooLong
+
+-- In document 01's model.
+abbrev pub caseWalk : List ℕ → ℕ → ℕ → ℕ → Case → KorsepalWalk
+caseWalk = caseWalkIn Document
 
 -- "the stack as document 01 says of the walk alone, all zero for 2 and 5"
-abbrev pub caseCells : Model → List ℕ → ℕ → ℕ → ℕ → Case → List ℕ
-caseCells model bytes leader fault room (cases.Parts places) = cellsOf room (walkIn model (partsOf bytes places) leader fault room)
-caseCells model bytes leader fault room (cases.Wrong offset) = replicate room 0
-caseCells model bytes leader fault room cases.TooLong = replicate room 0
+abbrev pub caseCellsIn : Model → List ℕ → ℕ → ℕ → ℕ → Case → List ℕ
+caseCellsIn model bytes leader fault room (cases.Parts places) = cellsOf room (walkIn model (partsOf bytes places) leader fault room)
+caseCellsIn model bytes leader fault room (cases.Wrong offset) = replicate room 0
+caseCellsIn model bytes leader fault room cases.TooLong = replicate room 0
+
+abbrev pub caseCells : List ℕ → ℕ → ℕ → ℕ → Case → List ℕ
+caseCells = caseCellsIn Document
 
 -- ---- texts that are written where they fit, and else measured
 

@@ -32,10 +32,10 @@ ghost use Rattle.descriptor.specs.Readers.{parameters, returnSlots, fieldSlots}
 ghost use Rattle.descriptor.specs.declared.Slots.the-variants.{Slots as SlotsOf};
 ghost use Rattle.leader.specs.Scan.{blockLeader};
 ghost use Rattle.answer.specs.Answer.{answerBy, outputBy};
-ghost use Rattle.effects.specs.declared.Model.the-variants.{Document, Full};
+ghost use Rattle.effects.specs.declared.Model.the-variants.{Full};
 ghost use Rattle.report.specs.Report.{fullManner, reportIn, reportedBy, reportOf, reportedIn};
 ghost use Rattle.structs.specs.Structs.{reportNumbers, lengthNumbers, leaderNumbers, slotNumbers, nameNumbers, strictNumbers};
-ghost use Rattle.ffi.specs.Numbers.{caseWalk, caseCells, spoken, caseName, caseNamed, parameterNumbers, parametersIn};
+ghost use Rattle.ffi.specs.Numbers.{caseWalk, caseCells, caseWalkIn, caseCellsIn, spoken, caseName, caseNamed, parameterNumbers, parametersIn};
 
 // Reports on a case, over a lent stack and a lent output.
 #[no_mangle]
@@ -107,8 +107,8 @@ pub extern "C" fn korsepal_field_slots(descriptor: &[u8]) -> KorsepalSlots
 
 // Walks in a model from a leader to a fault over a lent stack, in the code of a case and with its members.
 fn walk_case(model: Model, case: &[u8], leader: u64, fault: u64, stack: &mut [u64]) -> KorsepalWalk
-    ensures answers { λ r. ⌜ r ≡ caseWalk model (now (case .entry)) leader fault (length (now (stack .entry))) (caseOf (now (case .entry))) ⌝ }
-    ensures leaves { λ r. ⌜ now (stack .exit) ≡ caseCells model (now (case .entry)) leader fault (length (now (stack .entry))) (caseOf (now (case .entry))) ⌝ }
+    ensures answers { λ r. ⌜ r ≡ caseWalkIn model (now (case .entry)) leader fault (length (now (stack .entry))) (caseOf (now (case .entry))) ⌝ }
+    ensures leaves { λ r. ⌜ now (stack .exit) ≡ caseCellsIn model (now (case .entry)) leader fault (length (now (stack .entry))) (caseOf (now (case .entry))) ⌝ }
 {
     match casefile::read_case(case) {
         Case::TooLong => {
@@ -154,8 +154,8 @@ pub extern "C" fn korsepal_walk(
     fault: u64,
     stack: &mut [u64],
 ) -> KorsepalWalk
-    ensures answers { λ r. ⌜ r ≡ caseWalk Document (now (case .entry)) leader fault (length (now (stack .entry))) (caseOf (now (case .entry))) ⌝ }
-    ensures leaves { λ r. ⌜ now (stack .exit) ≡ caseCells Document (now (case .entry)) leader fault (length (now (stack .entry))) (caseOf (now (case .entry))) ⌝ }
+    ensures answers { λ r. ⌜ r ≡ caseWalk (now (case .entry)) leader fault (length (now (stack .entry))) (caseOf (now (case .entry))) ⌝ }
+    ensures leaves { λ r. ⌜ now (stack .exit) ≡ caseCells (now (case .entry)) leader fault (length (now (stack .entry))) (caseOf (now (case .entry))) ⌝ }
 {
     walk_case(Model::Document, case, leader, fault, stack)
 }
@@ -168,8 +168,8 @@ pub extern "C" fn korsepal_walk_full(
     fault: u64,
     stack: &mut [u64],
 ) -> KorsepalWalk
-    ensures answers { λ r. ⌜ r ≡ caseWalk Full (now (case .entry)) leader fault (length (now (stack .entry))) (caseOf (now (case .entry))) ⌝ }
-    ensures leaves { λ r. ⌜ now (stack .exit) ≡ caseCells Full (now (case .entry)) leader fault (length (now (stack .entry))) (caseOf (now (case .entry))) ⌝ }
+    ensures answers { λ r. ⌜ r ≡ caseWalkIn Full (now (case .entry)) leader fault (length (now (stack .entry))) (caseOf (now (case .entry))) ⌝ }
+    ensures leaves { λ r. ⌜ now (stack .exit) ≡ caseCellsIn Full (now (case .entry)) leader fault (length (now (stack .entry))) (caseOf (now (case .entry))) ⌝ }
 {
     walk_case(Model::Full, case, leader, fault, stack)
 }
