@@ -2,8 +2,8 @@
  *
  * Every function takes any input, ends, and touches nothing but the memory that it is lent. A slice is two arguments, a
  * pointer and a count. Nothing is allocated and nothing is kept.
- * "Document 01" is the customer's requirements, "document 02" their later requests; the numbers are those of its "Numbers returned". A number that is not named
- * for an answer is 0.
+ * "Document 01" is the customer's requirements, "document 02" their later requests; the numbers are those of document 01's
+ * "Numbers returned". A number that is not named for an answer is 0.
  *
  * A report and a walk are had in one of two models, which the caller chooses by the function's name. Document 01's model gives
  * up at an instruction that it does not list: korsepal_report, korsepal_walk. The full model walks on through arithmetic,
