@@ -1,9 +1,9 @@
 //! Two builds of the library, an earlier one and this one, over the same cases: what moved. `bench/run against` makes the earlier
-//! archive and renames its functions.
+//! archive and renames its functions. The full model is compared where the earlier build has it.
 use crate::clock::{alternate, Times};
 use crate::groups::{self, Group};
 use crate::names::{self, Numbered};
-use crate::pair::Lent;
+use crate::pair::{Lent, Pair};
 use crate::Plan;
 use std::cell::RefCell;
 use std::hint::black_box;
@@ -27,26 +27,43 @@ struct Name {
 
 extern "C" {
     fn korsepal_report(_: *const u8, _: usize, _: *mut u64, _: usize, _: *mut u8, _: usize) -> Report;
+    #[cfg(before_full)]
+    fn korsepal_report_full(_: *const u8, _: usize, _: *mut u64, _: usize, _: *mut u8, _: usize) -> Report;
+    #[cfg(before_full)]
+    fn before_korsepal_report_full(_: *const u8, _: usize, _: *mut u64, _: usize, _: *mut u8, _: usize) -> Report;
     fn korsepal_local_name(_: *const u8, _: usize, _: u64, _: u64, _: *mut u8, _: usize) -> Name;
     fn before_korsepal_report(_: *const u8, _: usize, _: *mut u64, _: usize, _: *mut u8, _: usize) -> Report;
     fn before_korsepal_local_name(_: *const u8, _: usize, _: u64, _: u64, _: *mut u8, _: usize) -> Name;
 }
 
-/// A build of the library, by the functions that are timed.
+type ReportCall = unsafe extern "C" fn(*const u8, usize, *mut u64, usize, *mut u8, usize) -> Report;
+
+/// A build of the library, by the functions that are timed. Its reports are in each of the models that both builds have.
 struct Build {
-    report: unsafe extern "C" fn(*const u8, usize, *mut u64, usize, *mut u8, usize) -> Report,
+    reports: &'static [ReportCall],
     local_name: unsafe extern "C" fn(*const u8, usize, u64, u64, *mut u8, usize) -> Name,
 }
 
-const BEFORE: Build = Build { report: before_korsepal_report, local_name: before_korsepal_local_name };
-const NOW: Build = Build { report: korsepal_report, local_name: korsepal_local_name };
+/// What stands behind a group's name in each of the models.
+#[cfg(not(before_full))]
+const MODELS: [&str; 1] = [""];
+#[cfg(not(before_full))]
+const REPORTS: [[ReportCall; 1]; 2] = [[before_korsepal_report], [korsepal_report]];
+#[cfg(before_full)]
+const MODELS: [&str; 2] = ["", ", full model"];
+#[cfg(before_full)]
+const REPORTS: [[ReportCall; 2]; 2] =
+    [[before_korsepal_report, before_korsepal_report_full], [korsepal_report, korsepal_report_full]];
+
+const BEFORE: Build = Build { reports: &REPORTS[0], local_name: before_korsepal_local_name };
+const NOW: Build = Build { reports: &REPORTS[1], local_name: korsepal_local_name };
 
 impl Build {
-    fn report(&self, case: &[u8], lent: &mut Lent) -> Report {
+    fn report(&self, model: usize, case: &[u8], lent: &mut Lent) -> Report {
         let (stack, output) = (&mut lent.stack, &mut lent.output);
         // SAFETY: each pointer goes with the count of its slice, and the slices don't overlap.
         unsafe {
-            (self.report)(case.as_ptr(), case.len(), stack.as_mut_ptr(), stack.len(), output.as_mut_ptr(), output.len())
+            (self.reports[model])(case.as_ptr(), case.len(), stack.as_mut_ptr(), stack.len(), output.as_mut_ptr(), output.len())
         }
     }
 
@@ -93,13 +110,17 @@ impl Moved {
     }
 }
 
-/// Reports of every group, then the names.
+/// Reports of every group in each model, then the names.
 pub fn measure(plan: &Plan, progress: &mut impl FnMut(&str)) -> Vec<Moved> {
     let mut lines = Vec::new();
-    for Group { name, cells, pairs, .. } in groups::all(plan) {
-        progress(&name);
-        let cases = pairs.iter().map(|pair| time(plan.rounds, cells, |build, lent| build.report(&pair.case, lent)));
-        lines.push(Moved::of(name, cases.collect()));
+    let groups = groups::all(plan);
+    for (model, behind) in MODELS.iter().enumerate() {
+        for Group { name, cells, pairs, .. } in &groups {
+            let name = format!("{name}{behind}");
+            progress(&name);
+            let of = |pair: &Pair| time(plan.rounds, *cells, |build, lent| build.report(model, &pair.case, lent));
+            lines.push(Moved::of(name, pairs.iter().map(of).collect()));
+        }
     }
     for numbered in names::all() {
         progress(&numbered.name);

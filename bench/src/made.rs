@@ -89,6 +89,18 @@ const ALIKE: [(Unit, Unit); 4] = [
     (("pop", &[27, 87]), ("monitorenter", &[27, 194])), // iload_1, the opcode
 ];
 
+/// Units whose locals have one byte, and the same behind `wide`, which only the full model walks.
+const WIDENED: [(Unit, &[u8]); 5] = [
+    (("aload, pop", &[25, 200, 87]), &[196, 25, 1, 44, 87]),
+    (("lconst_0, lstore", &[9, 55, 200]), &[9, 196, 55, 1, 44]),
+    (("iinc", &[132, 200, 1]), &[196, 132, 1, 44, 0, 1]),
+    (("iload, istore", &[21, 200, 54, 201]), &[196, 21, 1, 44, 196, 54, 1, 45]),
+    (
+        ("dload, dload, dmul, dstore", &[24, 200, 24, 202, 107, 57, 200]),
+        &[196, 24, 1, 44, 196, 24, 1, 46, 107, 196, 57, 1, 44],
+    ),
+];
+
 fn long_method((_, unit): Unit, length: usize) -> Case {
     ended(repeated(unit, length), few_members())
 }
@@ -108,6 +120,12 @@ pub fn long_methods(length: usize) -> Vec<(&'static str, bool, Case)> {
 pub fn alike_methods(length: usize) -> Vec<[(&'static str, bool, Case); 2]> {
     let method = |unit: Unit| (unit.0, false, long_method(unit, length));
     ALIKE.iter().map(|&(document, full)| [method(document), method(full)]).collect()
+}
+
+/// Long methods of the units with locals of one byte, and of the same behind `wide`.
+pub fn widened_methods(length: usize) -> Vec<[(&'static str, bool, Case); 2]> {
+    let method = |name, unit| (name, false, long_method((name, unit), length));
+    WIDENED.iter().map(|&((name, narrow), wide)| [method(name, narrow), method(name, wide)]).collect()
 }
 
 /// Long methods without a branch.

@@ -101,6 +101,36 @@ pub fn paces(length: usize, rounds: usize, progress: &mut impl FnMut(&str)) -> V
     made::long_methods(length).iter().filter_map(&mut of_method).collect()
 }
 
+/// A long method behind `wide`, and one of as many bytes whose locals have one byte.
+pub struct Widened {
+    pub narrow: Pace,
+    pub wide: Pace,
+    /// Reports in the full model: of the method behind `wide`, and as those of the other side of the other.
+    pub reports: Times,
+}
+
+/// Reports of two cases in the full model, in turns.
+fn full_reports(wide: &Case, narrow: &Case, rounds: usize) -> Option<Times> {
+    let (wide, narrow) = (wide.bytes()?, narrow.bytes()?);
+    let lent = RefCell::new(Lent::cells(CELLS));
+    let report = |case: &[u8]| {
+        let mut lent = lent.borrow_mut();
+        let Lent { stack, output } = &mut *lent;
+        black_box(report_in(Manner::default().full(), case, stack, output));
+    };
+    Some(alternate(rounds, || report(&wide), || report(&narrow)))
+}
+
+/// The full model through methods of so many bytes behind `wide`, beside those with locals of one byte.
+pub fn widened(length: usize, rounds: usize, progress: &mut impl FnMut(&str)) -> Vec<Widened> {
+    progress("the walk's pace: locals of two bytes");
+    let both = |[narrow, wide]: &[(&'static str, bool, Case); 2]| {
+        let reports = full_reports(&wide.2, &narrow.2, rounds)?;
+        Some(Widened { narrow: pace(narrow, rounds)?, wide: pace(wide, rounds)?, reports })
+    };
+    made::widened_methods(length).iter().filter_map(both).collect()
+}
+
 /// The pace through methods that differ in one opcode: of document 01's in its model, and of the added one in the full model.
 pub fn alike(length: usize, rounds: usize, progress: &mut impl FnMut(&str)) -> Vec<[Pace; 2]> {
     progress("the walk's pace: opcodes of as many slots");

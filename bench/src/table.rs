@@ -4,7 +4,7 @@ use crate::before::Moved;
 use crate::clock::Times;
 use crate::growth::{Curve, Hostile};
 use crate::groups::{median, Row};
-use crate::models::{InBoth, Pace};
+use crate::models::{InBoth, Pace, Widened};
 use crate::parts::Parts;
 
 /// Nanoseconds with their unit, three digits or so.
@@ -150,6 +150,24 @@ pub fn alike(pairs: &[[Pace; 2]]) -> String {
         ]
     };
     laid_out(&head, &pairs.iter().map(cells).collect::<Vec<_>>())
+}
+
+/// One line a unit: with locals of one byte, and behind `wide`, in the full model.
+pub fn widened(methods: &[Widened]) -> String {
+    let head = ["unit", "instructions", "behind wide", "each", "behind wide", "ratio", "report", "behind wide"];
+    let cells = |Widened { narrow, wide, reports }: &Widened| {
+        vec![
+            narrow.name.to_string(),
+            grouped(narrow.instructions as usize),
+            grouped(wide.instructions as usize),
+            duration(narrow.full),
+            duration(wide.full),
+            ratio(wide.full / narrow.full),
+            duration(reports.other),
+            duration(reports.library),
+        ]
+    };
+    laid_out(&head, &methods.iter().map(cells).collect::<Vec<_>>())
 }
 
 /// An earlier build of the library, and this one.

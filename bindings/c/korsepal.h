@@ -8,8 +8,9 @@
  * A report and a walk are had in one of two models, which the caller chooses by the function's name. Document 01's model gives
  * up at an instruction that it does not list: korsepal_report, korsepal_walk. The full model walks on through arithmetic,
  * conversions, comparisons, stores to arrays and fields, dup_x1 to dup2_x2, monitors and multianewarray (document 02, request
- * 1), so it names a null more often: korsepal_report_full, korsepal_walk_full, with the same arguments and results. It too gives up
- * at branches, invokedynamic, wide, and an array of no dimension.
+ * 1), and through loads, stores and iinc behind wide (request 7), so it names a null more often: korsepal_report_full,
+ * korsepal_walk_full, with the same arguments and results. It too gives up at branches, invokedynamic, wide before any other
+ * instruction, and an array of no dimension.
  *
  * Results are structs by value, laid out as C lays them out: numbers of 32 bits at 4-byte places, of 64 bits at 8-byte places,
  * in the order written here. Their sizes stand at the end of this file. */
@@ -76,7 +77,9 @@ korsepal_leader_result korsepal_block_leader(const uint8_t *code, size_t code_co
  * outcome 1: failed after count instructions
  * outcome 2: the case breaks its layout at index; 5: it is too long
  * outcome 3: the stack lacks room after the instruction at index
- * On 1 to 5 the stack is all zero. A cell is 0 when opaque, else 1 + 256 * load index + local. */
+ * On 1 to 5 the stack is all zero. A cell is 0 when opaque, else 1 + 65,536 * load index + local, in both models; the index of
+ * a load behind wide is that of wide. The factor was 256 before document 02's request 7, so a caller that decodes cells must
+ * change with this archive. */
 typedef struct {
     uint32_t outcome;
     uint64_t height;

@@ -9,12 +9,14 @@ use std::time::Instant;
 const SHOWN: usize = 5;
 
 /// The columns: those of cases, then those of descriptors.
-const COLUMNS: [&str; 14] = [
+const COLUMNS: [&str; 16] = [
     "inputs",
     "cause",
     "action",
     "none",
     "full cause",
+    "by wide",
+    "wide cause",
     "broken",
     "too long",
     "reports",
@@ -31,6 +33,8 @@ const CASE_COLUMNS: &[Column] = &[
     Column::Action,
     Column::NoMessage,
     Column::FullCause,
+    Column::ByWide,
+    Column::WideCause,
     Column::Broken,
     Column::TooLong,
     Column::Reports,
@@ -48,8 +52,10 @@ pub enum Column {
     Cause,
     Action,
     NoMessage,
-    /// Those that have a cause in the full model.
+    /// Those that have a cause in the full model; those whose walk goes on through `wide` there; and those whose cause it loaded.
     FullCause,
+    ByWide,
+    WideCause,
     Broken,
     TooLong,
     /// Calls that were compared, in both models.

@@ -101,7 +101,7 @@ impl Run {
     fn fault(&mut self, bytes: &[u8], parts: &Parts, facts: &Facts) {
         let message_panics = self.checked_message(bytes, parts, facts);
         let leader_panics = self.leaders(bytes, parts, facts);
-        self.count_facts(facts, message_panics || leader_panics);
+        self.count_facts(parts, facts, message_panics || leader_panics);
         for model in MODELS {
             self.reports(bytes, facts, model);
             self.own_walk(bytes, parts, facts, model);
@@ -128,7 +128,7 @@ impl Run {
     /// In both models the report with enough room, and the walk of the case.
     fn report_and_walk(&mut self, bytes: &[u8], parts: &Parts, facts: &Facts) {
         let panics = self.checked_message(bytes, parts, facts);
-        self.count_facts(facts, panics);
+        self.count_facts(parts, facts, panics);
         for model in MODELS {
             let said = facts.said(model);
             self.report(bytes, facts, model, said.highest(), said.length());
@@ -138,15 +138,18 @@ impl Run {
     }
 
     /// Counts the case by its answer, and the listed differences that hold of it.
-    fn count_facts(&mut self, facts: &Facts, checked_panics: bool) {
+    fn count_facts(&mut self, parts: &Parts, facts: &Facts, checked_panics: bool) {
         self.book.count(match facts.answer(Model::Document, usize::MAX, usize::MAX) {
             Answer::Message { kind: 2, .. } => Column::Cause,
             Answer::Message { .. } => Column::Action,
             _ => Column::NoMessage,
         });
-        if facts.has_cause(Model::Full) {
-            self.book.count(Column::FullCause);
-        }
+        let in_full = [
+            (facts.has_cause(Model::Full), Column::FullCause),
+            (facts.by_wide(&parts.code), Column::ByWide),
+            (facts.wide_cause(&parts.code, usize::from(parts.fault)), Column::WideCause),
+        ];
+        in_full.iter().filter(|(holds, _)| *holds).for_each(|(_, column)| self.book.count(*column));
         // Where D6 or D7 holds beside others, another message is counted to it, and a panic to them.
         let differs = facts.wrapped_differs && facts.own_rules();
         let listed = [
@@ -267,6 +270,17 @@ impl Run {
                 self.walk(bytes, model, leader, fault, &facts.walk(model, parts, leader, fault));
             }
             self.checked_walk(bytes, parts, facts, leader, fault);
+        }
+    }
+
+    /// The walks of a case from a leader to a fault in both models, with just enough room.
+    pub fn walks(&mut self, parts: &Parts, leader: usize, fault: usize) {
+        let (bytes, facts) = (layout::lay_out(parts), Facts::of(parts));
+        for model in MODELS {
+            let walked = facts.walk(model, parts, leader, fault);
+            let (places, room) = ((leader as u64, fault as u64), walked.highest());
+            self.lender.walk(&mut self.book, model, &bytes, places, room, walked.answer(room));
+            self.book.count(Column::Walks);
         }
     }
 

@@ -8,6 +8,8 @@ use crate::sides::{Build, Wrapped};
 use std::fs;
 use std::path::{Path, PathBuf};
 
+const WIDE: u8 = 196;
+
 /// The kind of the cases that are as the class files have them.
 const KIND: &str = "class files";
 
@@ -39,6 +41,7 @@ struct Seen {
     unreadable: u64,
     methods: u64,
     instructions: u64,
+    wide: u64,
     unmeasured: u64,
 }
 
@@ -60,8 +63,9 @@ pub fn compare(run: &mut Run, folder: &Path) -> std::io::Result<()> {
     }
     eprintln!();
     println!(
-        "{} classes ({} more could not be read), {} methods with code, {} instructions, {} methods not measured to their end",
-        seen.classes, seen.unreadable, seen.methods, seen.instructions, seen.unmeasured
+        "{} classes ({} more could not be read), {} methods with code, {} instructions, {} of them behind wide, {} methods not \
+         measured to their end",
+        seen.classes, seen.unreadable, seen.methods, seen.instructions, seen.wide, seen.unmeasured
     );
     println!();
     Ok(())
@@ -81,12 +85,18 @@ pub fn print_shares(book: &Book) {
             share(causes, faults - none)
         );
     }
+    println!(
+        "    of the latter {} loaded by wide; {} walks of the full model go on through wide",
+        counted(Column::WideCause),
+        counted(Column::ByWide)
+    );
 }
 
 fn compare_method(run: &mut Run, seen: &mut Seen, class: &ClassFile, method: &Method) {
     seen.methods += 1;
     let starts = starts(&method.code);
     seen.instructions += starts.len() as u64;
+    seen.wide += starts.iter().filter(|&&start| method.code[start] == WIDE).count() as u64;
     if end(&method.code, &starts) != Some(method.code.len()) {
         seen.unmeasured += 1;
     }

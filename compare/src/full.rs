@@ -1,5 +1,5 @@
-//! The rule of the full model's walk: document 02, request 1, over the stack effects that JVMS 6.5 lists. Written apart from the
-//! library and its tables; the Rust has no such walk. Of the Rust only the length of an instruction is taken.
+//! The rule of the full model's walk: document 02, requests 1 and 7, over the stack effects that JVMS 6.5 lists. Written apart from
+//! the library and its tables; the Rust has no such walk. Of the Rust only the length of an instruction is taken.
 use crate::layout::{Member, Parts};
 use crate::rule::{Landing, Walked};
 use crate::sides::{Build, Origin, Wrapped};
@@ -61,9 +61,13 @@ const CARRYING: [(u8, &[&str]); 9] = [
     (95, &["ba>ab"]),
 ];
 
+const ILOAD: u8 = 21;
 const ALOAD: u8 = 25;
 const ALOAD_0: u8 = 42;
 const ALOAD_3: u8 = 45;
+const ISTORE: u8 = 54;
+const ASTORE: u8 = 58;
+const IINC: u8 = 132;
 const GETSTATIC: u8 = 178;
 const PUTSTATIC: u8 = 179;
 const GETFIELD: u8 = 180;
@@ -71,6 +75,7 @@ const PUTFIELD: u8 = 181;
 const INVOKEVIRTUAL: u8 = 182;
 const INVOKESTATIC: u8 = 184;
 const INVOKEINTERFACE: u8 = 185;
+const WIDE: u8 = 196;
 const MULTIANEWARRAY: u8 = 197;
 
 /// What an instruction does: the slots that it takes, and what it puts in their place.
@@ -189,10 +194,25 @@ fn call_effect(parts: &Parts, pc: usize, opcode: u8) -> Option<Effect> {
     Some(Effect::opaque(receiver + arguments, given))
 }
 
+/// Whether the walk goes on through `wide` before an opcode: loads, stores and `iinc`. JVMS has `ret` besides, which no walk models.
+pub fn widens(opcode: u8) -> bool {
+    matches!(opcode, ILOAD..=ALOAD | ISTORE..=ASTORE | IINC)
+}
+
+/// The effect of `wide` at an index: that of what it widens, whose local has two bytes.
+fn wide_effect(parts: &Parts, pc: usize) -> Option<Effect> {
+    match *parts.code.get(pc + 1)? {
+        ALOAD => Some(Effect::load(u16::from_be_bytes([*parts.code.get(pc + 2)?, *parts.code.get(pc + 3)?]))),
+        opcode if widens(opcode) => FIXED[usize::from(opcode)].clone(),
+        _ => None,
+    }
+}
+
 /// The effect of the instruction at an index; `None` where it is not modelled, is cut, or cites what is not there.
 fn effect(parts: &Parts, pc: usize) -> Option<Effect> {
     match *parts.code.get(pc)? {
         ALOAD => Some(Effect::load(u16::from(*parts.code.get(pc + 1)?))),
+        WIDE => wide_effect(parts, pc),
         opcode @ GETSTATIC..=PUTFIELD => field_effect(parts, pc, opcode),
         opcode @ INVOKEVIRTUAL..=INVOKEINTERFACE => call_effect(parts, pc, opcode),
         // An array of no dimension is refused.
@@ -204,9 +224,11 @@ fn effect(parts: &Parts, pc: usize) -> Option<Effect> {
     }
 }
 
-/// The bytes of a modelled instruction, of which only those that its effect reads need be there.
-fn length(opcode: u8) -> usize {
-    Wrapped::length(&[opcode, 0, 0, 0, 0], 0).expect("no modelled instruction has more than five bytes")
+/// The bytes of the modelled instruction at an index, of which only those that its effect reads need be there. The byte behind the opcode
+/// bears on them where that is `wide`.
+fn length(code: &[u8], pc: usize) -> usize {
+    let widened = code.get(pc + 1).copied().unwrap_or(0);
+    Wrapped::length(&[code[pc], widened, 0, 0, 0, 0], 0).expect("no modelled instruction has more than six bytes")
 }
 
 /// A walk from a leader, as far as it was asked for. That to a nearer fault is the first part of it.
@@ -249,7 +271,7 @@ impl FullWalk {
             Put::Load(local) => self.list.push(Some((local, self.at))),
             Put::Carried(places) => self.list.extend(places.iter().map(|&place| taken[place])),
         }
-        let next = self.at + length(parts.code[self.at]);
+        let next = self.at + length(&parts.code, self.at);
         self.landings.push(Landing { by: self.at, place: next, height: self.list.len() });
         self.at = next;
         Some(())

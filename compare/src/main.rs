@@ -62,11 +62,12 @@ fn each(run: &mut Run, count: u64, mut one: impl FnMut(&mut Run)) {
     }
 }
 
-/// The whole comparison: so many cases, so many made descriptors, a tenth more of each with a `)` put into names, a fifth more cases with
-/// a damaged byte, and every short descriptor as the count allows.
+/// The whole comparison: the fixed rows, every opcode behind `wide`, so many cases, so many made descriptors, a tenth more of each with a
+/// `)` put into names, a fifth more cases with a damaged byte, and every short descriptor as the count allows.
 fn compare(seed: u64, count: u64) -> Run {
     let mut run = Run::new(seed);
     rows::compare(&mut run);
+    rows::compare_behind_wide(&mut run);
     cases(&mut run, seed, count);
     parenthesised_cases(&mut run, seed, count / PARENTHESISED);
     damaged_cases(&mut run, seed, count / DAMAGED);

@@ -52,6 +52,21 @@ fn in_document(opcode: u8) -> bool {
     matches!(opcode, 0..=78 | 87..=89 | 92 | 95 | 132 | 187..=190 | 192 | 193)
 }
 
+/// What the walk goes on through behind `wide`: loads, stores and `iinc`.
+const WIDENED: [u8; 11] = [21, 22, 23, 24, 25, 54, 55, 56, 57, 58, 132];
+
+/// The locals that `wide` reaches for, about the edges of one byte and of two.
+const FAR: [u16; 8] = [0, 255, 256, 257, 300, 511, 65_534, 65_535];
+
+/// A local of two bytes.
+fn far_local(random: &mut Random) -> u16 {
+    if random.once_in(6) {
+        random.next() as u16
+    } else {
+        FAR[random.below(FAR.len())]
+    }
+}
+
 /// Operand bytes of any instruction but the switches and `wide`.
 fn operands(opcode: u8) -> usize {
     match opcode {
@@ -91,6 +106,39 @@ impl Maker<'_> {
         }
     }
 
+    /// An instruction that cites no member, with its operands; sometimes behind `wide`, where that may stand before it. Document 01's
+    /// model gives up at it.
+    fn instruction(&mut self, opcode: u8) {
+        let times = if self.model == Model::Full { 3 } else { 40 };
+        if full::widens(opcode) && self.random.once_in(times) {
+            return self.wide(opcode);
+        }
+        self.start(opcode);
+        self.operands(operands(opcode));
+    }
+
+    /// `wide` before an opcode, with a local of two bytes, and with two bytes more for `iinc`.
+    fn wide(&mut self, opcode: u8) {
+        self.start(196);
+        self.code.push(opcode);
+        let local = far_local(self.random);
+        self.code.extend(local.to_be_bytes());
+        if opcode == 132 {
+            self.operands(2);
+        }
+    }
+
+    /// `wide` before any opcode: mostly `ret` and others that no walk goes on through behind it.
+    fn any_wide(&mut self) {
+        let opcode = match self.random.below(4) {
+            0 => WIDENED[self.random.below(WIDENED.len())],
+            1 => 169,
+            2 => [0, 20, 26, 42, 53, 59, 131, 133, 196, 202][self.random.below(10)],
+            _ => self.random.byte(),
+        };
+        self.wide(opcode);
+    }
+
     /// Slots taken and put by an opcode that the model walks and that cites no member.
     fn effect(&self, opcode: u8) -> Option<(usize, usize)> {
         let walked = self.model == Model::Full || in_document(opcode);
@@ -110,10 +158,14 @@ impl Maker<'_> {
         if self.model == Model::Full && self.random.once_in(16) {
             return self.multianewarray(floor);
         }
+        if self.model == Model::Full && self.random.once_in(200) {
+            return self.any_wide();
+        }
         loop {
-            let opcode = match self.random.below(6) {
+            let opcode = match self.random.below(7) {
                 0 | 1 => [25, 42, 43, 44, 45, 89, 92, 95, 192][self.random.below(9)],
                 2 => [90, 91, 93, 94][self.random.below(4)],
+                3 => WIDENED[self.random.below(WIDENED.len())],
                 _ => self.random.below(196) as u8,
             };
             let Some((taken, put)) = self.effect(opcode) else { continue };
@@ -124,8 +176,7 @@ impl Maker<'_> {
                     _ => continue,
                 }
             }
-            self.start(opcode);
-            self.operands(operands(opcode));
+            self.instruction(opcode);
             self.height = self.height.saturating_sub(taken) + put;
             return;
         }
@@ -199,17 +250,17 @@ impl Maker<'_> {
     fn push(&mut self) {
         let opcode = [1, 5, 9, 16, 20, 25, 26, 42, 43][self.random.below(9)];
         let (_, put) = self.effect(opcode).expect("it is walked");
-        self.start(opcode);
-        self.operands(operands(opcode));
+        self.instruction(opcode);
         self.height += put;
     }
 
     /// A load, sometimes cast or carried along.
     fn load(&mut self) {
-        let opcode = [25, 42, 43, 44, 45][self.random.below(5)];
-        self.start(opcode);
-        if opcode == 25 {
-            self.operands(1);
+        if self.model == Model::Full && self.random.once_in(8) {
+            self.wide(25);
+        } else {
+            let opcode = [25, 42, 43, 44, 45][self.random.below(5)];
+            self.instruction(opcode);
         }
         self.height += 1;
         if self.random.once_in(5) {
@@ -232,8 +283,7 @@ impl Maker<'_> {
     fn level(&mut self, wanted: usize) {
         while self.height > wanted {
             let opcode = if self.model == Model::Full { [87, 54, 96, 194][self.random.below(4)] } else { 87 };
-            self.start(opcode);
-            self.operands(operands(opcode));
+            self.instruction(opcode);
             self.height -= 1;
         }
         while self.height < wanted {
@@ -278,12 +328,7 @@ impl Maker<'_> {
         let opcode = if self.random.once_in(8) { self.random.byte() } else { self.random.below(202) as u8 };
         match opcode {
             170 | 171 => self.switch(opcode == 170),
-            196 => {
-                self.start(196);
-                let widened = if self.random.once_in(3) { 132 } else { self.random.byte() };
-                self.code.push(widened);
-                self.operands(if widened == 132 { 4 } else { 2 });
-            }
+            196 => self.any_wide(),
             153..=168 | 198..=201 => self.branch(opcode),
             _ => {
                 self.start(opcode);
@@ -401,7 +446,11 @@ fn records(random: &mut Random, length: usize) -> Vec<Record> {
         .map(|_| Record {
             start: random.below(length + 2) as u16,
             length: if random.once_in(5) { random.number() } else { random.below(length + 2) as u16 },
-            slot: if random.once_in(8) { random.number() } else { random.below(5) as u16 },
+            slot: match random.below(8) {
+                0 => random.number(),
+                1 | 2 => far_local(random),
+                _ => random.below(5) as u16,
+            },
             name: text(random, &NAMES),
         })
         .collect()
@@ -568,7 +617,7 @@ fn boundary(random: &mut Random) -> Vec<u8> {
         return longest(random);
     }
     let mut case = parts(random);
-    match random.below(15) {
+    match random.below(18) {
         0 => case.code.clear(),
         1 => case.fault = (case.code.len() + random.below(3)) as u16 - random.below(2).min(case.code.len()) as u16,
         2 => many_dimensions(random, &mut case),
@@ -583,6 +632,9 @@ fn boundary(random: &mut Random) -> Vec<u8> {
         11 => case.members.iter_mut().for_each(|member| member.name = b"<init>".to_vec()),
         12 => long_names(random, &mut case),
         13 => case.code = odd_array(random, &mut case.fault),
+        14 => case.code = odd_wide(random, &mut case.fault),
+        15 => wide_at_the_end(random, &mut case),
+        16 => many_parameters(random, &mut case),
         _ => case.records.iter_mut().for_each(|record| record.name.clear()),
     }
     lay_out(&case)
@@ -715,9 +767,50 @@ fn odd_array(random: &mut Random, fault: &mut u16) -> Vec<u8> {
     code
 }
 
+/// `wide` before any opcode, whole or cut at the code's end, below a dereference or another end. A branch may lead to it as an operand,
+/// so that the scan measures other instructions than the walk meets.
+fn odd_wide(random: &mut Random, fault: &mut u16) -> Vec<u8> {
+    let opcode = if random.once_in(3) { random.byte() } else { WIDENED[random.below(WIDENED.len())] };
+    let mut code =
+        if random.once_in(2) { vec![0xa7, 0, 4, 0x10] } else { vec![0x2a + random.below(4) as u8; random.below(4)] };
+    code.extend([0xc4, opcode]);
+    let mut operands = far_local(random).to_be_bytes().to_vec();
+    if opcode == 132 || random.once_in(8) {
+        operands.extend([random.byte(), random.byte()]);
+    }
+    if random.once_in(3) {
+        operands.truncate(random.below(operands.len()));
+    }
+    code.extend(operands);
+    *fault = code.len() as u16;
+    if !random.once_in(3) {
+        code.push([0xbe, 0xbf, 0xc2][random.below(3)]);
+    }
+    code
+}
+
+/// `wide` as the last byte of a code, an operand to which a branch leads; the byte behind it in the case, the length of the signature, is
+/// an opcode that it could widen.
+fn wide_at_the_end(random: &mut Random, case: &mut Parts) {
+    let opcode = WIDENED[random.below(WIDENED.len())];
+    case.code = vec![0xa7, 0, 4, 0x10, 0xc4];
+    case.fault = if opcode == 132 { 10 } else { 8 };
+    case.signature = vec![b'm'; usize::from(opcode)];
+}
+
+/// More than 255 slots of parameters, and a load by `wide` about the last of them.
+fn many_parameters(random: &mut Random, case: &mut Parts) {
+    let longs = random.between(126, 160);
+    case.signature = [b"m:(", &b"J".repeat(longs)[..], b"[I[I)V"].concat();
+    let local = (2 * longs - 2 + random.below(6)) as u16;
+    let [high, low] = local.to_be_bytes();
+    case.code = vec![0xc4, 0x19, high, low, 0xbe];
+    case.fault = 4;
+}
+
 /// A branch into the operand of an instruction that the walk then reads from there.
 fn into_an_instruction(random: &mut Random, fault: &mut u16) -> Vec<u8> {
-    let entered = [random.byte(), 0xc5, 0xb3, 0xb5, 0x5d][random.below(5)];
+    let entered = [random.byte(), 0xc5, 0xb3, 0xb5, 0x5d, 0xc4][random.below(6)];
     let mut code = vec![0xa7, 0, 4, 0x10, entered];
     code.extend((0..random.below(3)).map(|_| random.below(60) as u8));
     code.extend([0xbe, 0xb1]);
@@ -725,10 +818,18 @@ fn into_an_instruction(random: &mut Random, fault: &mut u16) -> Vec<u8> {
     code
 }
 
+/// One of the last two locals, loaded by `wide` at every fifth index, and the last load dereferenced at the greatest index.
+fn last_locals(random: &mut Random, case: &mut Parts) {
+    let unit = [0xc4, 0x19, 0xff, [0xff, 0xfe][random.below(2)], 0x57];
+    case.code = unit.repeat(65_535 / unit.len());
+    case.fault = 65_534;
+    case.code[65_534] = 0xbe;
+}
+
 /// Tables and texts of the greatest sizes.
 fn huge(random: &mut Random) -> Parts {
     let mut case = parts(random);
-    match random.below(5) {
+    match random.below(6) {
         0 => {
             case.flags = 8 * random.below(2) as u16;
             case.code = vec![0x2b, 0xbe];
@@ -751,6 +852,7 @@ fn huge(random: &mut Random) -> Parts {
             case.code = vec![0x2a, 0xbe];
             case.fault = 1;
         }
+        4 => last_locals(random, &mut case),
         _ => {
             case.code = vec![0; random.between(65_530, 65_533)];
             case.code.extend([0x2a, 0xbe]);

@@ -5,7 +5,7 @@ use korsepal::Manner;
 pub enum Model {
     /// Document 01's, which is the Rust's.
     Document,
-    /// The full one of document 02, request 1. The Rust has none; `full.rs` has its rule.
+    /// The full one of document 02, requests 1 and 7. The Rust has none; `full.rs` has its rule.
     Full,
 }
 

@@ -119,9 +119,8 @@ fn model_rows() -> Vec<(Parts, usize, &'static str, &'static str)> {
         (bare(&[0x2a, 4, 4, 0xc5, 0, 1, 2, 0x57, 0xbe], 8, b""), 8, "0 1 6 3 ~", "0 2 6 5 ~^0"),
         (bare(&[0x2a, 4, 4, 0xc5, 0, 1, 0, 0x57, 0xbe], 8, b""), 8, "0 1 6 3 ~", "0 1 6 3 ~"),
         (bare(&[4, 0xc5, 0, 1, 2, 0x57, 0xbe], 6, b""), 8, "0 1 4 1 ~", "0 1 4 1 ~"),
-        // invokedynamic and wide are in neither.
+        // invokedynamic is in neither.
         (bare(&[0x2a, 0xba, 0, 1, 0, 0, 0xbe], 6, b""), 8, "0 1 3 1 ~", "0 1 3 1 ~"),
-        (bare(&[0xc4, 0x19, 0, 0, 0xbe], 4, b""), 8, "0 1 2 0 ~", "0 1 2 0 ~"),
         // Room is missed where document 01's model gave up before.
         (bare(&[3, 4, 0x60, 0x2a, 0x2b, 0x2c, 0xbe], 6, b""), 2, "0 1 7 2 ~", "3 0 0 0 4"),
         (
@@ -130,6 +129,34 @@ fn model_rows() -> Vec<(Parts, usize, &'static str, &'static str)> {
             "0 1 6 3 Cannot load from double array",
             "0 2 6 4 Cannot load from double array because \"z\" is null",
         ),
+    ]
+}
+
+/// A load of local 300 behind `wide`, and records of that local: from index 1 on, and at index 0.
+fn axis() -> Parts {
+    let record = |start, length, name: &[u8]| Record { start, length, slot: 300, name: name.to_vec() };
+    let records = vec![record(1, 9, b"late"), record(0, 1, b"axis")];
+    Parts { records, ..bare(&[0xc4, 0x19, 1, 0x2c, 0xbe], 4, b"") }
+}
+
+/// Rows of document 02, request 7, as those of request 1.
+fn wide_rows() -> Vec<(Parts, usize, &'static str, &'static str)> {
+    vec![
+        // wide aload of the locals 0, 300 and 65,535
+        (bare(&[0xc4, 0x19, 0, 0, 0xbe], 4, b""), 8, "0 1 2 0 ~", "0 2 2 1 ~^0"),
+        (bare(&[0xc4, 0x19, 1, 0x2c, 0xbe], 4, b""), 8, "0 1 2 0 ~", "0 2 2 1 ~^300"),
+        (bare(&[0xc4, 0x19, 0xff, 0xff, 0xbe], 4, b""), 8, "0 1 2 0 ~", "0 2 2 1 ~^65535"),
+        (axis(), 8, "0 1 2 0 ~", "0 2 2 1 ~ because \"axis\" is null"),
+        // wide ret
+        (bare(&[0xc4, 0xa9, 0, 1, 0x2a, 0xbe], 5, b""), 8, "0 1 3 0 ~", "0 1 3 0 ~"),
+        // wide iinc and wide lstore
+        (bare(&[0xc4, 0x84, 1, 0x2c, 0, 5, 0x2a, 0xbe], 7, b""), 8, "0 1 3 0 ~", "0 2 3 2 ~^0"),
+        (bare(&[0x2a, 0x0a, 0xc4, 0x37, 1, 0x2c, 0xbe], 6, b""), 8, "0 1 4 2 ~", "0 2 4 3 ~^0"),
+        // A branch leads to wide as an operand, where its own are cut: only those of aload are read.
+        (bare(&[0xa7, 0, 4, 0x10, 0xc4, 0x15, 0xbe], 6, b""), 8, "0 1 3 0 ~", "0 1 3 1 ~"),
+        (bare(&[0xa7, 0, 4, 0x10, 0xc4, 0x19, 0xbe], 6, b""), 8, "0 1 3 0 ~", "0 1 3 0 ~"),
+        // Room is missed at the index of wide.
+        (bare(&[0, 0xc4, 0x19, 1, 0x2c, 0xbe], 5, b""), 0, "0 1 3 1 ~", "3 0 0 0 1"),
     ]
 }
 
@@ -217,13 +244,29 @@ pub fn compare(run: &mut Run) {
     for (parts, expected) in case_rows() {
         compare_row(run, &parts, 16, &[(Model::Document, expected)]);
     }
-    for (parts, room, document, full) in model_rows() {
+    for (parts, room, document, full) in model_rows().into_iter().chain(wide_rows()) {
         compare_row(run, &parts, room, &[(Model::Document, document), (Model::Full, full)]);
     }
     for (code, pc, expected) in length_rows() {
         run.book.case("fixed rows");
         run.case(&lay_out(&bare(&code, pc as u16, b"")));
         run.book.expect(&code, "row", expected, measured(&code, pc));
+    }
+}
+
+/// Every opcode behind `wide` and four loads: whole, with a fault behind it; and the walk alone to where it would end, its last bytes cut.
+pub fn compare_behind_wide(run: &mut Run) {
+    const KIND: &str = "every opcode by wide";
+    let loads = [0x2a, 0x2b, 0x2c, 0x2d];
+    for opcode in 0..=255 {
+        let whole = &[0xc4, opcode, 1, 0x2c, 0, 5][..if opcode == 132 { 6 } else { 4 }];
+        let end = loads.len() + whole.len();
+        run.book.case(KIND);
+        run.case(&lay_out(&bare(&[&loads, whole, &[0xbe]].concat(), end as u16, b"")));
+        for cut in 1..whole.len() {
+            run.book.case(KIND);
+            run.walks(&bare(&[&loads, &whole[..cut]].concat(), 0, b""), 0, end);
+        }
     }
 }
 

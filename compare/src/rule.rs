@@ -9,8 +9,10 @@ use crate::model::Model;
 use crate::sides::{quietly, Build, Checked, Held, Holding, Origin, Wrapped};
 use korsepal::{Answer, Walk};
 
-/// No instruction of the walk is longer.
+/// No instruction of the Rust's walk is longer.
 const LONGEST_WALKED: usize = 5;
+
+const WIDE: u8 = 196;
 
 /// The list after a completed instruction.
 #[derive(Clone, Copy)]
@@ -69,11 +71,11 @@ pub struct Walked {
     cells: Option<Vec<u64>>,
 }
 
-/// A cell by document 01: 0 when opaque, else 1 + 256 * load index + local.
+/// A cell by document 02, request 7, in both models: 0 when opaque, else 1 + 65,536 * load index + local.
 fn cell(origin: &Origin) -> u64 {
     match origin {
         None => 0,
-        Some((local, load)) => 1 + 256 * *load as u64 + u64::from(*local),
+        Some((local, load)) => 1 + 65_536 * *load as u64 + u64::from(*local),
     }
 }
 
@@ -170,12 +172,16 @@ pub struct Facts {
     pub leader: Option<usize>,
 }
 
+/// Where the slot at a depth of a walk's list comes from.
+fn origin(depth: usize, walked: Option<&Walked>) -> Origin {
+    let slots = walked.and_then(|walked| walked.slots.as_deref()).unwrap_or_default();
+    slots.len().checked_sub(1 + depth).and_then(|place| slots[place])
+}
+
 /// The message put together as `build_message` does, for a walk that stands in for its own.
 fn composed(side: &Wrapped, code: &[u8], fault: usize, walked: Option<&Walked>) -> Option<String> {
     let (action, depth) = side.action(code, fault)?;
-    let slots = walked.and_then(|walked| walked.slots.as_deref()).unwrap_or_default();
-    let origin = slots.len().checked_sub(1 + depth).and_then(|place| slots[place]);
-    Some(match origin {
+    Some(match origin(depth, walked) {
         Some((local, load)) => format!("{action} because \"{}\" is null", side.name(local, load)),
         None => action,
     })
@@ -277,6 +283,18 @@ impl Facts {
     pub fn has_cause(&self, model: Model) -> bool {
         let message = &self.said(model).message;
         message.is_some() && self.action != *message
+    }
+
+    /// Whether the full model's walk goes on through `wide`.
+    pub fn by_wide(&self, code: &[u8]) -> bool {
+        let walked = self.full.walked.as_ref();
+        walked.is_some_and(|walked| walked.landings.iter().any(|landing| code[landing.by] == WIDE))
+    }
+
+    /// Whether the full model's cause was loaded by `wide`.
+    pub fn wide_cause(&self, code: &[u8], fault: usize) -> bool {
+        let Some((_, depth)) = self.wrapped.action(code, fault) else { return false };
+        origin(depth, self.full.walked.as_ref()).is_some_and(|(_, load)| code[load] == WIDE)
     }
 
     /// What a report answers in a model, with room for so many slots and bytes.

@@ -141,8 +141,9 @@ pub enum Walk<'a> {
     TooLong,
 }
 
-/// The walk from a leader to a fault in the code of a case. A cell is 0 when opaque, else 1 + 256 * load index + local
-/// (see [`loaded`]). Where the fault is not reached the stack is all zero.
+/// The walk from a leader to a fault in the code of a case. A cell is 0 when opaque, else 1 + 65,536 * load index + local
+/// (see [`loaded`]); before document 02's request 7 it was 1 + 256 * load index + local. Where the fault is not reached the stack is
+/// all zero.
 pub fn walk<'a>(case: &[u8], leader: u64, fault: u64, stack: &'a mut [u64]) -> Walk<'a> {
     walk_in(Manner::default(), case, leader, fault, stack)
 }
@@ -162,10 +163,10 @@ pub fn walk_in<'a>(manner: Manner, case: &[u8], leader: u64, fault: u64, stack: 
     }
 }
 
-/// The load's index and the local that a cell holds, or `None` for an opaque one.
+/// The load's index and the local that a cell holds, or `None` for an opaque one. The index of a load behind `wide` is that of `wide`.
 pub fn loaded(cell: u64) -> Option<(u64, u64)> {
     let rest = cell.checked_sub(1)?;
-    Some((rest / 256, rest % 256))
+    Some((rest / 65_536, rest % 65_536))
 }
 
 /// What the name of a local answers.

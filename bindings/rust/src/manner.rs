@@ -20,9 +20,10 @@ pub struct Manner {
 }
 
 impl Manner {
-    /// In the full model (document 02, request 1): the walk goes on through arithmetic, conversions, comparisons, stores to
-    /// arrays and fields, dup_x1 to dup2_x2, monitors and multianewarray, where document 01's model gives up. So a cause is
-    /// given more often; and the stack may lack room behind the place where document 01's model gave up.
+    /// In the full model (document 02, requests 1 and 7): the walk goes on through arithmetic, conversions, comparisons, stores to
+    /// arrays and fields, dup_x1 to dup2_x2, monitors and multianewarray, and through loads, stores and iinc behind wide, where
+    /// document 01's model gives up. So a cause is given more often; and the stack may lack room behind the place where document
+    /// 01's model gave up.
     pub fn full(mut self) -> Self {
         self.is_full = true;
         self

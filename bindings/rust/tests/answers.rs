@@ -90,6 +90,27 @@ fn both_models() {
     }
 }
 
+/// Rows of document 02, request 7: a code, its fault, the line of document 01's model and that of the full one.
+#[test]
+fn locals_above_255() {
+    let rows: [(&[u8], u16, &str, &str); 8] = [
+        (&[0xc4, 0x19, 1, 0x2c, 0xbe], 4, "0 1 2 0 ~", "0 2 2 1 ~ because \"<local300>\" is null"),
+        (&[0xc4, 0x19, 0xff, 0xff, 0xbe], 4, "0 1 2 0 ~", "0 2 2 1 ~ because \"<local65535>\" is null"),
+        (&[0xc4, 0x84, 1, 0x2c, 0, 5, 0x2a, 0xbe], 7, "0 1 3 0 ~", "0 2 3 2 ~ because \"<local0>\" is null"),
+        (&[0x2a, 0x0a, 0xc4, 0x37, 1, 0x2c, 0xbe], 6, "0 1 4 2 ~", "0 2 4 3 ~ because \"<local0>\" is null"),
+        (&[0xc4, 0x15, 1, 0x2c, 0x57, 0x2a, 0xbe], 6, "0 1 4 0 ~", "0 2 4 3 ~ because \"<local0>\" is null"),
+        (&[0xc4, 0xa9, 0, 1, 0x2a, 0xbe], 5, "0 1 3 0 ~", "0 1 3 0 ~"),
+        (&[0xa7, 0, 4, 0x10, 0xc4, 0x15, 0xbe], 6, "0 1 3 0 ~", "0 1 3 1 ~"),
+        (&[0xa7, 0, 4, 0x10, 0xc4, 0x19, 0xbe], 6, "0 1 3 0 ~", "0 1 3 0 ~"),
+    ];
+    for (code, fault, document, full) in rows {
+        for (manner, expected) in manners().into_iter().zip([document, full]) {
+            let expected = expected.replace('~', "Cannot read the array length");
+            assert_eq!(line(manner, &static_case(code, fault), 8), expected, "{code:02x?}");
+        }
+    }
+}
+
 #[test]
 fn a_case_lays_out_its_bytes() {
     let case = Case {
@@ -209,7 +230,9 @@ fn walks() {
     assert_eq!(walk(EXAMPLE, 0, 1, &mut stack), Walk::Done { slots: &[1], count: 1 });
     assert_eq!(stack, [1, 0, 0, 0]);
     assert_eq!(loaded(1), Some((0, 0)));
-    assert_eq!(loaded(1 + 256 * 5 + 3), Some((5, 3)));
+    assert_eq!(loaded(1 + 65_536 * 5 + 3), Some((5, 3)));
+    assert_eq!(loaded(65_536), Some((0, 65_535)));
+    assert_eq!(loaded(65_537), Some((1, 0)));
     assert_eq!(loaded(0), None);
     assert_eq!(walk(EXAMPLE, 0, 1, &mut []), Walk::NoRoom { at: 0 });
     assert_eq!(walk(EXAMPLE, 1, 0, &mut stack), Walk::Failed { count: 0 });
@@ -229,6 +252,47 @@ fn walks_through_arithmetic() {
     assert_eq!(stack, [0, 1, 0, 0]);
     assert_eq!(walk_in(full, &case, 0, 5, &mut stack[..2]), Walk::NoRoom { at: 2 });
     assert_eq!(stack, [0; 4]);
+}
+
+#[test]
+fn walks_behind_wide() {
+    // nop, wide aload 300, wide iinc, aload_3; then the index of the first load is that of `wide`.
+    let case = static_case(&[0, 0xc4, 0x19, 1, 0x2c, 0xc4, 0x84, 1, 0x2c, 0, 5, 0x2d, 0xbe], 12);
+    let full = Manner::default().full();
+    let cells = [1 + 65_536 + 300, 1 + 65_536 * 11 + 3];
+    let mut stack = [7; 4];
+    assert_eq!(walk_in(full, &case, 0, 12, &mut stack), Walk::Done { slots: &cells, count: 4 });
+    assert_eq!(stack, [cells[0], cells[1], 0, 0]);
+    assert_eq!(cells.map(loaded), [Some((1, 300)), Some((11, 3))]);
+    assert_eq!(walk_in(full, &case, 0, 12, &mut stack[..1]), Walk::NoRoom { at: 11 });
+    assert_eq!(walk(&case, 0, 12, &mut stack), Walk::Failed { count: 1 });
+    assert_eq!(stack, [0; 4]);
+    // In document 01's model a cell has the same form.
+    assert_eq!(walk(&case, 11, 12, &mut stack), Walk::Done { slots: &cells[1..], count: 1 });
+}
+
+#[test]
+fn cut_behind_wide() {
+    let full = Manner::default().full();
+    let mut stack = [7; 2];
+    // Only the operands of `wide aload` are read.
+    let int_load = static_case(&[0xc4, 0x15], 0);
+    assert_eq!(walk_in(full, &int_load, 0, 4, &mut stack), Walk::Done { slots: &[0], count: 1 });
+    let load = static_case(&[0xc4, 0x19, 1], 0);
+    assert_eq!(walk_in(full, &load, 0, 4, &mut stack), Walk::Failed { count: 0 });
+    let alone = static_case(&[0xc4], 0);
+    assert_eq!(walk_in(full, &alone, 0, 4, &mut stack), Walk::Failed { count: 0 });
+}
+
+#[test]
+fn a_local_above_255_is_named() {
+    let code = [0, 0xc4, 0x19, 1, 0x2c, 0xbe];
+    let record = |start, length, name: &str| LocalRecord { start, length, slot: 300, name: name.into() };
+    let records = [record(2, 9, "late"), record(0, 2, "axis")];
+    let message = |manner| build_message_in(manner, 8, &code, "m:()V", string_member, &records, 5);
+    let [document, full] = manners();
+    assert_eq!(message(document).as_deref(), Some("Cannot read the array length"));
+    assert_eq!(message(full).as_deref(), Some("Cannot read the array length because \"axis\" is null"));
 }
 
 #[test]

@@ -1,15 +1,18 @@
-// The walk of a block over a lent stack of cells, in either model (document 01, "The walk"; document 02, request 1).
+// The walk of a block over a lent stack of cells, in either model (document 01, "The walk"; document 02, requests 1
+// and 7).
 use cell::Cell;
 use cell::clear;
 use effects::Model;
 use instruction::Effect;
+use key::Key;
 use walk::Walk;
 ghost use mathlib.Core.Path.{_≡_};
 ghost use Prim.Native.Nat.{_+_, _<_};
 ghost use lib.Dec.{leb};
 ghost use lib.ListN.{length, take, replicate};
 ghost use Rattle.basics.specs.Choice.{pick};
-ghost use Rattle.fixed.specs.Fixed.{FixedLengths};
+ghost use Rattle.fixed.specs.Fixed.{keyLength, FixedLengths};
+ghost use Rattle.key.specs.Key.{keyFrom};
 ghost use Rattle.index.specs.Index.{Indexed};
 ghost use Rattle.effects.specs.Lookup.{lookupIn};
 ghost use Rattle.effects.specs.Rows.{rowsOf};
@@ -121,6 +124,17 @@ fn apply(stack: &mut [u64], height: usize, pc: usize, effect: Effect) -> Height
     }
 }
 
+// The bytes of an instruction, by a table of the lengths that an opcode fixes.
+fn size_by(lengths: &[u8; 256], key: Key) -> usize
+    requires { ⌜ FixedLengths (now lengths) ⌝ }
+    ensures { λ r. ⌜ r ≡ keyLength (keyFrom key) ⌝ }
+{
+    match key {
+        Key::Plain(op) => fixed::fixed_by(lengths, op) as usize,
+        Key::Wide(op) => fixed::wide_by(op) as usize,
+    }
+}
+
 // How an instruction ends that leaves a height: it goes on behind its bytes, or passes the fault.
 fn land(pc: usize, fault: usize, size: usize, height: usize) -> Step
     requires { ⌜ pc < fault ⌝ }
@@ -159,9 +173,9 @@ fn step_at(
     if code.len() <= pc {
         return Step::Stops;
     }
-    let op = code[pc];
-    let effect = instruction::effect_of(model, op, code, members, count, table, pc);
-    let size = fixed::fixed_by(lengths, op) as usize;
+    let key = key::key_at(code, pc);
+    let effect = instruction::effect_of(model, key, code, members, count, table, pc);
+    let size = size_by(lengths, key);
     match apply(stack, height, pc, effect) {
         Height::Refused => Step::Stops,
         Height::Over => Step::Lacks,

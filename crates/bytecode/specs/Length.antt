@@ -11,6 +11,7 @@ use Rattle.basics.specs.Bytes.{byteAt}
 use Rattle.basics.specs.Choice.{pick}
 use Rattle.jvms.specs.Format.{Format, fixed, tableswitch, lookupswitch, wide, reserved, widths, formatOf}
 use Rattle.reads.specs.Signed.{i32At}
+use Rattle.fixed.specs.Fixed.{wideBy}
 use Rattle.bytecode.specs.declared.Measure.{Measure}
 use Rattle.bytecode.specs.declared.Measure.the-variants.{Length, NoLength, Reserved}
 
@@ -40,7 +41,7 @@ lookupBytes code pc = operandsAt pc - pc + 8 + 8 * lookupPairs code pc
 
 -- "`wide` is 6 before `iinc`, else 4."
 unfoldable pub wideBytes : List ℕ → ℕ → ℕ
-wideBytes code pc = pick (eqb (byteAt code (pc + 1)) 132) 6 4
+wideBytes code pc = wideBy (byteAt code (pc + 1))
 
 -- "Lengths are those of JVMS 6.5, except that 202 to 255 count one byte."
 abbrev pub bytesBy : Format → List ℕ → ℕ → ℕ

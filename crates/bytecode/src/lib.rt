@@ -2,6 +2,7 @@
 // Every public function takes any code and any index.
 use fixed::fixed_by;
 use fixed::fixed_length;
+use fixed::wide_by;
 use opcode::Opcode;
 use reads::byte_at;
 use reads::read_i32;
@@ -41,10 +42,7 @@ fn wide_bytes(code: &[u8], pc: usize) -> usize
     requires { ⌜ pc < length (now code) ⌝ }
     ensures { λ r. ⌜ r ≡ wideBytes (now (code .entry)) pc ⌝ }
 {
-    if byte_at(code, pc + 1) == Opcode::IINC {
-        return 6;
-    }
-    4
+    wide_by(byte_at(code, pc + 1)) as usize
 }
 
 // The difference of two numbers, none where it is negative.

@@ -41,8 +41,8 @@ too-large load local e = by-test (hasCell load local) (cellOf load local) e
 
 pub load-unpacks : LoadUnpacks
 load-unpacks load local small =
-    let high : (cellOf load local - 1) / 256 ≡ load = omega arith in
-    let low : (cellOf load local - 1) % 256 ≡ local = omega arith in
+    let high : (cellOf load local - 1) / 65536 ≡ load = omega arith in
+    let low : (cellOf load local - 1) % 65536 ≡ local = omega arith in
     rw (ne-eqb (cellOf load local) 0 (no-load-is-zero load local)) (ap₂ Loaded high low)
 
 pub packed-unpacks : PackedUnpacks
@@ -54,7 +54,7 @@ zero-is-other = refl
 pub other-is-zero : OtherIsZero
 other-is-zero cell e = by-test (eqb cell 0) refl e
   where
-    by-test : (b : Bool) → eqb cell 0 ≡ b → pick b Other (Loaded ((cell - 1) / 256) ((cell - 1) % 256)) ≡ Other → cell ≡ 0
+    by-test : (b : Bool) → eqb cell 0 ≡ b → pick b Other (Loaded ((cell - 1) / 65536) ((cell - 1) % 65536)) ≡ Other → cell ≡ 0
     by-test true t e = eqb-true cell 0 t
     by-test false t e = let z : _≡_ {A = ℕ} 0 1 = cc in absurd (omega arith)
 
@@ -62,11 +62,11 @@ pub cell-of-unpacked : CellOfUnpacked
 cell-of-unpacked cell load local e = by-test (eqb cell 0) refl e
   where
     by-test :
-        (b : Bool) → eqb cell 0 ≡ b → pick b Other (Loaded ((cell - 1) / 256) ((cell - 1) % 256)) ≡ Loaded load local →
-        (cell ≡ cellOf load local) × (local < 256)
+        (b : Bool) → eqb cell 0 ≡ b → pick b Other (Loaded ((cell - 1) / 65536) ((cell - 1) % 65536)) ≡ Loaded load local →
+        (cell ≡ cellOf load local) × (local < 65536)
     by-test true t e = let z : _≡_ {A = ℕ} 0 1 = cc in absurd (omega arith)
     by-test false t e =
-        let high : (cell - 1) / 256 ≡ load = cc in
-        let low : (cell - 1) % 256 ≡ local = cc in
+        let high : (cell - 1) / 65536 ≡ load = cc in
+        let low : (cell - 1) % 65536 ≡ local = cc in
         let some : cell ≡ 0 → ⊥ = eqb-false cell 0 t in
         (omega (arith, high, low, some), omega (arith, low))

@@ -1,4 +1,6 @@
--- A cell of the lent stack (document 01, "Numbers returned"): "A cell is 0 when opaque, else 1 + 256 * load index + local."
+-- A cell of the lent stack: 0 when opaque (document 01, "Numbers returned"), else of a load, and "A slot's record must carry locals to
+-- 65,535 beside the load index, so the cell becomes 1 + 65,536 * load index + local for every part that reads one" (document 02,
+-- request 7).
 -- Assumes nothing.
 use Prim.Native.Nat.{ℕ, _+_, _-_, _*_, _/_, _%_, _^_}
 use mathlib.Core.Bool.{Bool}
@@ -11,7 +13,7 @@ use Rattle.cell.specs.declared.Slot.the-variants.{Other, Loaded}
 
 -- of a load, by its index and its local
 abbrev pub cellOf : ℕ → ℕ → ℕ
-cellOf load local = 1 + 256 * load + local
+cellOf load local = 1 + 65536 * load + local
 
 -- a cell has 64 bits: a load whose cell would pass 2^64 - 1 has none
 abbrev pub hasCell : ℕ → ℕ → Bool
@@ -22,4 +24,4 @@ packed load local = pick (hasCell load local) (Held (cellOf load local)) TooLarg
 
 -- what a cell holds
 abbrev pub unpacked : ℕ → Slot
-unpacked cell = pick (eqb cell 0) Other (Loaded ((cell - 1) / 256) ((cell - 1) % 256))
+unpacked cell = pick (eqb cell 0) Other (Loaded ((cell - 1) / 65536) ((cell - 1) % 65536))

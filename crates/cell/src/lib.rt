@@ -1,4 +1,5 @@
-// A cell of the lent stack: an opaque slot, or the load of a local, as a number (document 01, "Numbers returned").
+// A cell of the lent stack: an opaque slot, or the load of a local, as a number (document 01, "Numbers returned"; document
+// 02, request 7).
 ghost use mathlib.Core.Path.{_≡_};
 ghost use lib.ListN.{length, replicate};
 ghost use Rattle.cell.specs.Cell.{packed, unpacked};
@@ -23,10 +24,10 @@ pub fn pack(load: usize, local: usize) -> Cell
     if most < local {
         return Cell::TooLarge;
     }
-    if (most - local) / 256 < load {
+    if (most - local) / 65536 < load {
         return Cell::TooLarge;
     }
-    Cell::Held((1 + 256 * load + local) as u64)
+    Cell::Held((1 + 65536 * load + local) as u64)
 }
 
 // The load of a cell.
@@ -38,8 +39,8 @@ pub fn unpack(cell: u64) -> Slot
     }
     let rest = (cell - 1) as usize;
     Slot::Loaded {
-        load: rest / 256,
-        local: rest % 256,
+        load: rest / 65536,
+        local: rest % 65536,
     }
 }
 

@@ -11,7 +11,7 @@ use Rattle.basics.proofs.Every.{both-first, both-second}
 use Rattle.jvms.specs.Machine.{run, results}
 use Rattle.jvms.specs.Stack.{Form, Cited, slotsIn}
 use Rattle.effects.specs.Agreement.{takenBy, givenBy, Pushed, FormAgrees}
-use Rattle.effects.specs.Rows.{Row, unmodelled, opaque, aload, aloadOf, carries, keeps, gets, calls, puts, makes}
+use Rattle.effects.specs.Rows.{Row, unmodelled, opaque, aload, aloadFar, aloadOf, carries, keeps, gets, calls, puts, makes}
 use Rattle.effects.proofs.Results.{noneBorne, own-results, placesAre, carried-results}
 use Rattle.effects.proofs.Weights.{operands-linear, taken-linear, given-linear, alikeForFive, alike-for-all}
 
@@ -19,6 +19,7 @@ abbrev pushesFit : Row → Form → Bool
 pushesFit unmodelled form = noneBorne (form .before) (form .after)
 pushesFit (opaque taken given) form = noneBorne (form .before) (form .after)
 pushesFit aload form = noneBorne (form .before) (form .after)
+pushesFit aloadFar form = noneBorne (form .before) (form .after)
 pushesFit (aloadOf local) form = noneBorne (form .before) (form .after)
 pushesFit (carries taken places) form = placesAre (form .before) (form .after) taken places
 pushesFit keeps form = noneBorne (form .before) (form .after)
@@ -49,6 +50,7 @@ module _ (form : Form) {Val : Type 0} (cited : Cited) (operands : List Val) (own
   pushes-agree unmodelled t e size = own-pushed 0 t e
   pushes-agree (opaque taken given) t e size = own-pushed given t e
   pushes-agree aload t e size = own-pushed 1 t e
+  pushes-agree aloadFar t e size = own-pushed 1 t e
   pushes-agree (aloadOf local) t e size = own-pushed 1 t e
   pushes-agree (carries taken places) t e size =
       carried-results cited (form .before) (form .after) operands own places

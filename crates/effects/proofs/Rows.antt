@@ -1,22 +1,27 @@
--- The rows of both models agree with JVMS, opcode by opcode: one test of a table that antt computes over all of them, and what it says.
+-- The rows of both models agree with JVMS, key by key: one test of a table that antt computes over all of them, and what it says.
 -- Assumes nothing.
-use Prim.Native.Nat.{ℕ, _<_}
+use Prim.Native.Nat.{ℕ, _+_, _-_, _<_}
 use native.Mathlib.Omega.{arith}
 use mathlib.Core.Path.{_≡_, refl, _∙_, sym, ap, subst}
 use mathlib.Core.Bool.{Bool, true, false}
 use mathlib.Core.Logic.{⊎-elim}
 use mathlib.Core.List.{List, [], _∷_, List·Memᴰ, List·Memᴰ·not-nil, List·Memᴰ·cases-cons}
 use lib.Dec.{T, eqb, ltb, eqb→eq, ltb→lt}
+use borrow.Author.Tests.{ltb-true, ltb-false}
+use Rattle.basics.specs.Bytes.{AreBytes}
 use Rattle.basics.specs.Choice.{pick, both, alike, between}
+use Rattle.basics.proofs.Choice.{chosen}
 use Rattle.basics.proofs.Every.{both-first, both-second, alike-is, every, every-at}
-use Rattle.jvms.specs.Extent.{takes, extentBy, extentAt}
+use Rattle.jvms.specs.Extent.{takes, wideExtent, extentBy, extentAt}
 use Rattle.jvms.specs.Format.{Format, tableswitch, lookupswitch, wide, reserved, formatOf}
 use Rattle.jvms.specs.Format.{fixed as fixedFormat}
-use Rattle.jvms.specs.Stack.{objectref, reference, Form, _⇒_, Local, indexed, numbered, does, entryOf, keyAt, keyCount}
-use Rattle.fixed.specs.Fixed.{fixedBy, fixedLength, sizeAt}
+use Rattle.jvms.specs.Stack.{objectref, reference, Form, _⇒_, Local, indexed, far, numbered, does, entryOf, keyAt, keyCount}
+use Rattle.jvms.proofs.Keys.{key-plain, key-below}
+use Rattle.jvms.proofs.Sizes.{reaches, far-extent}
+use Rattle.fixed.specs.Fixed.{fixedBy, fixedLength, wideBy, keyLength, sizeAt}
 use Rattle.effects.specs.Agreement.{isModelled, hasEffect, within, FormAgrees, formsOf, hasForm, localOf, Details, EffectAgrees}
-use Rattle.effects.specs.Agreement.{Agreeing, ModelAgrees, Sized, ModelSized, documented, ModelsDocumented, added, ModelsAdded}
-use Rattle.effects.specs.Rows.{Row, unmodelled, opaque, aload, aloadOf, carries, keeps, gets, calls, puts, makes, orRow, rowOf, addedRow, fullRowOf}
+use Rattle.effects.specs.Agreement.{Agreeing, ModelAgrees, Sized, ModelSized, documented, ModelsDocumented, added, widens, ModelsAdded}
+use Rattle.effects.specs.Rows.{Row, unmodelled, opaque, aload, aloadFar, aloadOf, carries, keeps, gets, calls, puts, makes, orRow, rowOf, addedRow, widenedRow, wideRow, fullRowOf}
 use Rattle.effects.specs.declared.Model.the-variants.{Document, Full}
 use Rattle.effects.proofs.Forms.{formFits, form-agrees}
 
@@ -38,11 +43,20 @@ abbrev isIndexed : List Local → Bool
 isIndexed [] = false
 isIndexed (indexed ∷ []) = true
 isIndexed (indexed ∷ l ∷ ls) = false
+isIndexed (far ∷ ls) = false
 isIndexed (numbered n ∷ ls) = false
+
+abbrev isFar : List Local → Bool
+isFar [] = false
+isFar (indexed ∷ ls) = false
+isFar (far ∷ []) = true
+isFar (far ∷ l ∷ ls) = false
+isFar (numbered n ∷ ls) = false
 
 abbrev isNumbered : ℕ → List Local → Bool
 isNumbered local [] = false
 isNumbered local (indexed ∷ ls) = false
+isNumbered local (far ∷ ls) = false
 isNumbered local (numbered n ∷ []) = both (eqb n local) (ltb local 256)
 isNumbered local (numbered n ∷ l ∷ ls) = false
 
@@ -50,11 +64,20 @@ indexed-is : (ls : List Local) → T (isIndexed ls) → ls ≡ indexed ∷ []
 indexed-is [] t = absurd t
 indexed-is (indexed ∷ []) t = refl
 indexed-is (indexed ∷ l ∷ ls) t = absurd t
+indexed-is (far ∷ ls) t = absurd t
 indexed-is (numbered n ∷ ls) t = absurd t
+
+far-is : (ls : List Local) → T (isFar ls) → ls ≡ far ∷ []
+far-is [] t = absurd t
+far-is (indexed ∷ ls) t = absurd t
+far-is (far ∷ []) t = refl
+far-is (far ∷ l ∷ ls) t = absurd t
+far-is (numbered n ∷ ls) t = absurd t
 
 numbered-is : (local : ℕ) (ls : List Local) → T (isNumbered local ls) → (ls ≡ numbered local ∷ []) × (local < 256)
 numbered-is local [] t = absurd t
 numbered-is local (indexed ∷ ls) t = absurd t
+numbered-is local (far ∷ ls) t = absurd t
 numbered-is local (numbered n ∷ []) t = (
   ap (λ (k : ℕ). numbered k ∷ []) (eqb→eq n local (both-first (eqb n local) _ t)),
   ltb→lt local 256 (both-second (eqb n local) _ t),
@@ -65,6 +88,7 @@ abbrev detailsFit : Row → ℕ → Bool
 detailsFit unmodelled op = true
 detailsFit (opaque taken given) op = true
 detailsFit aload op = isIndexed (localOf (entryOf op))
+detailsFit aloadFar op = isFar (localOf (entryOf op))
 detailsFit (aloadOf local) op = isNumbered local (localOf (entryOf op))
 detailsFit (carries taken places) op = within taken places
 detailsFit keeps op = true
@@ -77,6 +101,7 @@ details-agree : (row : Row) (op : ℕ) → T (detailsFit row op) → Details row
 details-agree unmodelled op t = tt
 details-agree (opaque taken given) op t = tt
 details-agree aload op t = indexed-is (localOf (entryOf op)) t
+details-agree aloadFar op t = far-is (localOf (entryOf op)) t
 details-agree (aloadOf local) op t = numbered-is local (localOf (entryOf op)) t
 details-agree (carries taken places) op t = t
 details-agree keeps op t = tt
@@ -106,6 +131,7 @@ abbrev keepsFits : Row → ℕ → Bool
 keepsFits unmodelled op = true
 keepsFits (opaque taken given) op = true
 keepsFits aload op = true
+keepsFits aloadFar op = true
 keepsFits (aloadOf local) op = true
 keepsFits (carries taken places) op = true
 keepsFits keeps op = eqb op 192
@@ -153,11 +179,45 @@ asked false test s t = absurd s
 abbrev effectTest : Row → ℕ → Bool
 effectTest row op = whereAsked (hasEffect row) (effectFits row op)
 
+-- an opcode of a fixed format, or behind `wide` one that JVMS lets it widen
+abbrev sizeFits : ℕ → Bool
+sizeFits key = pick (ltb key 256) (isFixed (formatOf key)) (reaches (wideBy (key - 256)) (wideExtent (key - 256)))
+
 abbrev sizeTest : Row → ℕ → Bool
-sizeTest row op = whereAsked (isModelled row) (isFixed (formatOf op))
+sizeTest row key = whereAsked (isModelled row) (sizeFits key)
 
 abbrev rowFits : Row → ℕ → Bool
 rowFits row op = both (effectTest row op) (both (keepsFits row op) (sizeTest row op))
+
+-- such an instruction has the length of its key, and a byte at least
+module _ (code : List ℕ) (are : AreBytes code) (pc : ℕ) where
+  plain-extent : keyAt code pc < 256 → T (isFixed (formatOf (keyAt code pc))) → extentAt code pc ≡ takes (fixedLength (keyAt code pc))
+  unfolding extentAt fixedLength
+  plain-extent small t =
+      ap (λ (op : ℕ). extentBy (formatOf op) code pc) (key-plain code pc small) ∙ fixed-extent (formatOf (keyAt code pc)) t code pc
+
+  sized-extent : T (sizeFits (keyAt code pc)) → extentAt code pc ≡ takes (sizeAt code pc)
+  sized-extent t = by-key (ltb (keyAt code pc) 256) refl t
+    where
+      key : ℕ
+      key = keyAt code pc
+
+      by-key :
+          (b : Bool) → ltb (keyAt code pc) 256 ≡ b →
+          T (pick b (isFixed (formatOf key)) (reaches (wideBy (key - 256)) (wideExtent (key - 256)))) →
+          extentAt code pc ≡ takes (pick b (fixedLength key) (wideBy (key - 256)))
+      by-key true e t = plain-extent (ltb-true key 256 e) t
+      by-key false e t = far-extent code pc are (wideBy (key - 256)) t (ltb-false key 256 e)
+
+sized-some : (key : ℕ) → T (sizeFits key) → 0 < keyLength key
+unfolding fixedLength
+sized-some key t = by-key (ltb key 256) t
+  where
+    by-key :
+        (b : Bool) → T (pick b (isFixed (formatOf key)) (reaches (wideBy (key - 256)) (wideExtent (key - 256)))) →
+        0 < pick b (fixedLength key) (wideBy (key - 256))
+    by-key true t = fixed-some (formatOf key) t
+    by-key false t = chosen (λ (n : ℕ). 0 < n) (eqb (key - 256) 132) 6 4 (omega arith) (omega arith)
 
 -- a table that passes it agrees with JVMS, and its modelled instructions have a byte
 module _ (rows : ℕ → Row) (passed : T (every (λ key. rowFits (rows key) key) keyCount)) where
@@ -167,15 +227,9 @@ module _ (rows : ℕ → Row) (passed : T (every (λ key. rowFits (rows key) key
   later : (key : ℕ) → key < keyCount → T (both (keepsFits (rows key) key) (sizeTest (rows key) key))
   later key below = both-second (effectTest (rows key) key) _ (at key below)
 
-  is-fixed : (key : ℕ) → key < keyCount → T (isModelled (rows key)) → T (isFixed (formatOf key))
-  is-fixed key below some =
-      asked (isModelled (rows key)) (isFixed (formatOf key)) some (both-second (keepsFits (rows key) key) _ (later key below))
-
-  extent :
-      (code : List ℕ) (pc : ℕ) → keyAt code pc < keyCount → T (isModelled (rows (keyAt code pc))) →
-      extentAt code pc ≡ takes (sizeAt code pc)
-  unfolding extentAt fixedLength
-  extent code pc below some = fixed-extent (formatOf (keyAt code pc)) (is-fixed (keyAt code pc) below some) code pc
+  size-fits : (key : ℕ) → key < keyCount → T (isModelled (rows key)) → T (sizeFits key)
+  size-fits key below some =
+      asked (isModelled (rows key)) (sizeFits key) some (both-second (keepsFits (rows key) key) _ (later key below))
 
   pub passed-agrees : Agreeing rows
   passed-agrees =
@@ -188,18 +242,18 @@ module _ (rows : ℕ → Row) (passed : T (every (λ key. rowFits (rows key) key
             checkcast-is key
             (eqb→eq key 192
             (subst (λ (r : Row). T (keepsFits r key)) e (both-first (keepsFits (rows key) key) _ (later key below))));
-        sized = extent;
+        sized = λ code are pc some.
+            sized-extent code are pc (size-fits (keyAt code pc) (key-below code are pc) some);
       }
 
   pub passed-sized : Sized rows
-  unfolding fixedLength
-  passed-sized key below some = fixed-some (formatOf key) (is-fixed key below some)
+  passed-sized key below some = sized-some key (size-fits key below some)
 
 -- ---- both models
 
 -- the full table passes
 full-rows-fit : T (every (λ key. rowFits (fullRowOf key) key) keyCount)
-unfolding rowOf addedRow fullRowOf entryOf formatOf
+unfolding rowOf addedRow widenedRow fullRowOf entryOf formatOf
 full-rows-fit = tt
 
 -- and document 01's rows are of it
@@ -208,6 +262,7 @@ or-kept : (row other : Row) → T (isModelled row) → orRow row other ≡ row
 or-kept unmodelled other t = absurd t
 or-kept (opaque taken given) other t = refl
 or-kept aload other t = refl
+or-kept aloadFar other t = refl
 or-kept (aloadOf local) other t = refl
 or-kept (carries taken places) other t = refl
 or-kept keeps other t = refl
@@ -218,12 +273,13 @@ or-kept makes other t = refl
 
 extended : (key : ℕ) → T (isModelled (rowOf key)) → fullRowOf key ≡ rowOf key
 unfolding fullRowOf
-extended key t = or-kept (rowOf key) (addedRow key) t
+extended key t = or-kept (rowOf key) (orRow (addedRow key) (wideRow key)) t
 
 effect-modelled : (row : Row) → T (hasEffect row) → T (isModelled row)
 effect-modelled unmodelled t = absurd t
 effect-modelled (opaque taken given) t = tt
 effect-modelled aload t = tt
+effect-modelled aloadFar t = tt
 effect-modelled (aloadOf local) t = tt
 effect-modelled (carries taken places) t = tt
 effect-modelled keeps t = tt
@@ -244,8 +300,8 @@ model-agrees Document =
           subst (EffectAgrees key) same (full-agrees .effect key below (subst (λ (r : Row). T (hasEffect r)) (sym same) some));
       kept = λ key below e.
           full-agrees .kept key below (extended key (subst (λ (r : Row). T (isModelled r)) (sym e) tt) ∙ e);
-      sized = λ code pc below some.
-          full-agrees .sized code pc below
+      sized = λ code are pc some.
+          full-agrees .sized code are pc
           (subst (λ (r : Row). T (isModelled r)) (sym (extended (keyAt code pc) some)) some);
     }
 
@@ -257,17 +313,20 @@ model-sized Document key below some =
 -- document 01 models the opcodes that it lists, and no other
 pub models-documented : ModelsDocumented
 unfolding rowOf
-models-documented op below =
-    alike-is (isModelled (rowOf op)) (documented op)
-    (every-at (λ k. alike (isModelled (rowOf k)) (documented k)) 256 tt op below)
+models-documented key below =
+    alike-is (isModelled (rowOf key)) (documented key)
+    (every-at (λ k. alike (isModelled (rowOf k)) (documented k)) keyCount tt key below)
 
 -- and the full model these and the ones that are added, alike where document 01 has a row
 pub models-added : ModelsAdded
-unfolding rowOf addedRow fullRowOf
+unfolding rowOf addedRow widenedRow fullRowOf
 models-added =
     record {
       exactly = λ op below.
           alike-is (isModelled (fullRowOf op)) (pick (documented op) true (added op))
           (every-at (λ k. alike (isModelled (fullRowOf k)) (pick (documented k) true (added k))) 256 tt op below);
+      wide = λ op below.
+          alike-is (isModelled (fullRowOf (256 + op))) (widens op)
+          (every-at (λ k. alike (isModelled (fullRowOf (256 + k))) (widens k)) 256 tt op below);
       extends = extended;
     }

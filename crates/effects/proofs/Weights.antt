@@ -14,7 +14,7 @@ use Rattle.basics.proofs.Every.{both-first, both-second}
 use Rattle.jvms.specs.Stack.{Operand, int, long, float, double, reference, category1, category2, field, parameters, returned, dimensions, Cited, slotsOf, slotsIn}
 use Rattle.effects.specs.Agreement.{takenBy, givenBy, aboveBy}
 use Rattle.effects.specs.Depth.{Rule, none, fixed, reads, writes, invokes}
-use Rattle.effects.specs.Rows.{Row, unmodelled, opaque, aload, aloadOf, carries, keeps, gets, calls, puts, makes}
+use Rattle.effects.specs.Rows.{Row, unmodelled, opaque, aload, aloadFar, aloadOf, carries, keeps, gets, calls, puts, makes}
 
 abbrev pub cites : ℕ → ℕ → ℕ → ℕ → Cited
 cites f a g d = record { field = f; args = a; gives = g; dims = d }
@@ -90,6 +90,7 @@ pub taken-linear : (row : Row) → Linear (takenBy row)
 taken-linear unmodelled = constant 0
 taken-linear (opaque taken given) = constant taken
 taken-linear aload = constant 0
+taken-linear aloadFar = constant 0
 taken-linear (aloadOf local) = constant 0
 taken-linear (carries taken places) = constant taken
 taken-linear keeps = constant 0
@@ -102,6 +103,7 @@ pub given-linear : (row : Row) → Linear (givenBy row)
 given-linear unmodelled = constant 0
 given-linear (opaque taken given) = constant given
 given-linear aload = constant 1
+given-linear aloadFar = constant 1
 given-linear (aloadOf local) = constant 1
 given-linear (carries taken places) = constant (length places)
 given-linear keeps = constant 0

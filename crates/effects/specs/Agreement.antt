@@ -1,6 +1,6 @@
 -- The rows of both models and document 01's depths against the operands and results of JVMS.
 --
--- The claim (`ModelAgrees`, below): at every opcode that a model has, for every member that an instruction may cite, any dimensions and
+-- The claim (`ModelAgrees`, below): at every key that a model has, an opcode or one behind `wide`, for every member that an instruction may cite, any dimensions and
 -- each form of an opcode that has several, the slots that its row takes and gives are those of JVMS's operands and results, and each
 -- slot that it carries along is the operand that JVMS puts there. `checkcast` alone is apart: its row keeps the list. And
 -- (`DepthsAgree`) the depth of a reference is the number of slots above the operand that JVMS names objectref or arrayref.
@@ -20,14 +20,15 @@ use mathlib.Core.Bool.{Bool, true, false}
 use mathlib.Core.List.{List, [], _∷_, map, List·Memᴰ}
 use lib.Dec.{T, eqb, leb}
 use lib.ListN.{length, getD}
+use Rattle.basics.specs.Bytes.{AreBytes}
 use Rattle.basics.specs.Choice.{pick, both, oneOf, between}
 use Rattle.jvms.specs.Extent.{takes, extentAt}
 use Rattle.jvms.specs.Machine.{isReference, run, results}
-use Rattle.jvms.specs.Stack.{objectref, Operand, reference, Form, _⇒_, Local, indexed, numbered, Entry, unlisted, does, eitherOf, loads, stores, increments, throws}
+use Rattle.jvms.specs.Stack.{objectref, Operand, reference, Form, _⇒_, Local, indexed, far, numbered, Entry, unlisted, does, eitherOf, loads, stores, increments, throws}
 use Rattle.jvms.specs.Stack.{Cited, slotsOf, slotsIn, nameOf, entryOf, keyAt, keyCount, operandsOf}
-use Rattle.fixed.specs.Fixed.{fixedLength, sizeAt}
+use Rattle.fixed.specs.Fixed.{keyLength, sizeAt}
 use Rattle.effects.specs.Depth.{Rule, none, fixed, reads, writes, invokes, ruleOf}
-use Rattle.effects.specs.Rows.{Row, unmodelled, opaque, aload, aloadOf, carries, keeps, gets, calls, puts, makes, rowOf, fullRowOf, rowsOf}
+use Rattle.effects.specs.Rows.{Row, unmodelled, opaque, aload, aloadFar, aloadOf, carries, keeps, gets, calls, puts, makes, rowOf, fullRowOf, rowsOf}
 use Rattle.effects.specs.declared.Model.{Model}
 
 -- ---- what a row says
@@ -36,6 +37,7 @@ abbrev pub isModelled : Row → Bool
 isModelled unmodelled = false
 isModelled (opaque taken given) = true
 isModelled aload = true
+isModelled aloadFar = true
 isModelled (aloadOf local) = true
 isModelled (carries taken places) = true
 isModelled keeps = true
@@ -49,6 +51,7 @@ abbrev pub hasEffect : Row → Bool
 hasEffect unmodelled = false
 hasEffect (opaque taken given) = true
 hasEffect aload = true
+hasEffect aloadFar = true
 hasEffect (aloadOf local) = true
 hasEffect (carries taken places) = true
 hasEffect keeps = false
@@ -62,6 +65,7 @@ abbrev pub takenBy : Row → Cited → ℕ
 takenBy unmodelled cited = 0
 takenBy (opaque taken given) cited = taken
 takenBy aload cited = 0
+takenBy aloadFar cited = 0
 takenBy (aloadOf local) cited = 0
 takenBy (carries taken places) cited = taken
 takenBy keeps cited = 0
@@ -74,6 +78,7 @@ abbrev pub givenBy : Row → Cited → ℕ
 givenBy unmodelled cited = 0
 givenBy (opaque taken given) cited = given
 givenBy aload cited = 1
+givenBy aloadFar cited = 1
 givenBy (aloadOf local) cited = 1
 givenBy (carries taken places) cited = length places
 givenBy keeps cited = 0
@@ -91,6 +96,7 @@ abbrev pub Pushed : {Val : Type 0} → Row → Cited → List Val → (ℕ → V
 Pushed unmodelled cited taken own pushed = pushed ≡ []
 Pushed (opaque t given) cited taken own pushed = pushed ≡ run given 0 own
 Pushed aload cited taken own pushed = pushed ≡ run 1 0 own
+Pushed aloadFar cited taken own pushed = pushed ≡ run 1 0 own
 Pushed (aloadOf local) cited taken own pushed = pushed ≡ run 1 0 own
 Pushed (carries t places) cited taken own pushed = Carried places taken pushed
 Pushed keeps cited taken own pushed = pushed ≡ []
@@ -122,7 +128,7 @@ formsOf (does f) = f ∷ []
 formsOf (eitherOf f others) = f ∷ others
 formsOf (loads l f) = f ∷ []
 formsOf (stores l f) = f ∷ []
-formsOf (increments f) = f ∷ []
+formsOf (increments l f) = f ∷ []
 formsOf (throws os) = []
 
 abbrev pub hasForm : List Form → Bool
@@ -136,14 +142,15 @@ localOf (does f) = []
 localOf (eitherOf f others) = []
 localOf (loads l f) = l ∷ []
 localOf (stores l f) = []
-localOf (increments f) = []
+localOf (increments l f) = []
 localOf (throws os) = []
 
--- which local is loaded, that places are those of slots taken, that the opcode cites a field or a method, or has dimensions
+-- which local is loaded, that places are those of slots taken, that the opcode cites a field or a method, or has dimensions; of a key
 abbrev pub Details : Row → ℕ → Type 0
 Details unmodelled op = Unit {0}
 Details (opaque taken given) op = Unit {0}
 Details aload op = localOf (entryOf op) ≡ indexed ∷ []
+Details aloadFar op = localOf (entryOf op) ≡ far ∷ []
 Details (aloadOf local) op = (localOf (entryOf op) ≡ numbered local ∷ []) × (local < 256)
 Details (carries taken places) op = T (within taken places)
 Details keeps op = Unit {0}
@@ -165,7 +172,7 @@ pub record Agreeing (rows : ℕ → Row) : Type 1 where
       (key : ℕ) → key < keyCount → rows key ≡ keeps → entryOf key ≡ does (reference objectref ∷ [] ⇒ reference objectref ∷ [])
   -- the length of a modelled instruction is that of its key, by JVMS as by document 01
   pub sized :
-      (code : List ℕ) (pc : ℕ) → keyAt code pc < keyCount → T (isModelled (rows (keyAt code pc))) →
+      (code : List ℕ) → AreBytes code → (pc : ℕ) → T (isModelled (rows (keyAt code pc))) →
       extentAt code pc ≡ takes (sizeAt code pc)
 
 -- those of both models
@@ -174,7 +181,7 @@ ModelAgrees = (model : Model) → Agreeing (rowsOf model)
 
 -- every modelled instruction has a byte, so a walk that goes on comes nearer to the fault
 abbrev pub Sized : (ℕ → Row) → Type 0
-Sized rows = (key : ℕ) → key < keyCount → T (isModelled (rows key)) → 0 < fixedLength key
+Sized rows = (key : ℕ) → key < keyCount → T (isModelled (rows key)) → 0 < keyLength key
 
 abbrev pub ModelSized : Type 0
 ModelSized = (model : Model) → Sized (rowsOf model)
@@ -188,7 +195,7 @@ documented op =
     (oneOf (87 ∷ 88 ∷ 89 ∷ 92 ∷ 95 ∷ 132 ∷ 192 ∷ 193 ∷ 187 ∷ 188 ∷ 189 ∷ 190 ∷ 178 ∷ 180 ∷ 182 ∷ 183 ∷ 184 ∷ 185 ∷ []) op)
 
 abbrev pub ModelsDocumented : Type 0
-ModelsDocumented = (op : ℕ) → op < 256 → isModelled (rowOf op) ≡ documented op
+ModelsDocumented = (key : ℕ) → key < keyCount → isModelled (rowOf key) ≡ documented key
 
 -- "arithmetic (96 to 131), conversions, comparisons (148 to 152), stores to arrays, `putfield`, `putstatic`, the four missing forms
 -- (90, 91, 93, 94), `monitorenter`, `monitorexit` and `multianewarray`" (document 02, request 1); the conversions are 133 to 147
@@ -199,11 +206,16 @@ added op =
     (pick (between 148 152 op) true
     (pick (between 79 86 op) true (oneOf (181 ∷ 179 ∷ 90 ∷ 91 ∷ 93 ∷ 94 ∷ 194 ∷ 195 ∷ 197 ∷ []) op))))
 
+-- "accept `wide` before loads (21 to 25), stores (54 to 58) and `iinc`; any other opcode after it fails" (document 02, request 7)
+abbrev pub widens : ℕ → Bool
+widens op = pick (between 21 25 op) true (pick (between 54 58 op) true (eqb op 132))
+
 -- the full model has these and document 01's, "`invokedynamic` still fails", and so does all else; where document 01 models an opcode, its
 -- row is the full model's
 pub record ModelsAdded : Type 0 where
   pub exactly : (op : ℕ) → op < 256 → isModelled (fullRowOf op) ≡ pick (documented op) true (added op)
-  pub extends : (op : ℕ) → T (isModelled (rowOf op)) → fullRowOf op ≡ rowOf op
+  pub wide : (op : ℕ) → op < 256 → isModelled (fullRowOf (256 + op)) ≡ widens op
+  pub extends : (key : ℕ) → T (isModelled (rowOf key)) → fullRowOf key ≡ rowOf key
 
 -- ---- a depth against what JVMS says
 

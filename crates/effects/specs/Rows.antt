@@ -1,8 +1,9 @@
--- What the walk does at an opcode, as a row: by document 01 ("The walk"), and by the full model of document 02, request 1.
+-- What the walk does at an instruction, as a row by its key: by document 01 ("The walk"), and by the full model of document 02, requests
+-- 1 and 7. A key is an opcode, or behind `wide` 256 and the opcode there.
 -- Assumes nothing.
 use Prim.Native.Nat.{ℕ, _-_}
 use mathlib.Core.List.{List, [], _∷_}
-use lib.Dec.{eqb}
+use lib.Dec.{eqb, ltb}
 use Rattle.basics.specs.Choice.{pick, oneOf, between}
 use Rattle.effects.specs.declared.Model.{Model}
 use Rattle.effects.specs.declared.Model.the-variants.{Document, Full}
@@ -12,8 +13,8 @@ pub data Row : Type 0 where
   unmodelled : Row
   -- takes so many slots and pushes so many opaque ones
   opaque : ℕ → ℕ → Row
-  -- pushes the load of the local that the next byte names, or that the opcode names
-  aload : Row
+  -- pushes the load of the local that the next byte names, that the two bytes behind a widened opcode name, or that the opcode names
+  aload aloadFar : Row
   aloadOf : ℕ → Row
   -- takes so many slots and pushes copies of them, each by its number from the top, 1 the topmost
   carries : ℕ → List ℕ → Row
@@ -99,11 +100,30 @@ addedRow op =
     (pick (eqb op 197) makes
     unmodelled))))))))))))))))))))
 
+-- "accept `wide` before loads (21 to 25), stores (54 to 58) and `iinc`; any other opcode after it fails" (document 02, request 7): by
+-- the opcode behind `wide`, and by its key
+unfoldable pub widenedRow : ℕ → Row
+widenedRow op =
+    -- wide lload, wide dload; wide aload; wide iload, wide fload
+    pick (oneOf (22 ∷ 24 ∷ []) op) (opaque 0 2)
+    (pick (eqb op 25) aloadFar
+    (pick (between 21 25 op) (opaque 0 1)
+    -- wide lstore, wide dstore; wide istore, wide fstore, wide astore
+    (pick (oneOf (55 ∷ 57 ∷ []) op) (opaque 2 0)
+    (pick (between 54 58 op) (opaque 1 0)
+    -- wide iinc
+    (pick (eqb op 132) (opaque 0 0)
+    unmodelled)))))
+
+abbrev pub wideRow : ℕ → Row
+wideRow key = pick (ltb key 256) unmodelled (widenedRow (key - 256))
+
 -- the first where it models, else the second
 abbrev pub orRow : Row → Row → Row
 orRow unmodelled other = other
 orRow (opaque taken given) other = opaque taken given
 orRow aload other = aload
+orRow aloadFar other = aloadFar
 orRow (aloadOf local) other = aloadOf local
 orRow (carries taken places) other = carries taken places
 orRow keeps other = keeps
@@ -114,9 +134,9 @@ orRow makes other = makes
 
 -- the full model
 unfoldable pub fullRowOf : ℕ → Row
-fullRowOf op = orRow (rowOf op) (addedRow op)
+fullRowOf key = orRow (rowOf key) (orRow (addedRow key) (wideRow key))
 
 -- the rows of a model
 abbrev pub rowsOf : Model → ℕ → Row
-rowsOf Document op = rowOf op
-rowsOf Full op = fullRowOf op
+rowsOf Document key = rowOf key
+rowsOf Full key = fullRowOf key

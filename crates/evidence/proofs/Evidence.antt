@@ -105,7 +105,7 @@ module _ (manner : Manner) (p : Parts) (pool : Pool) (room : ℕ) (message : Lis
         described = λ pc here below. described (c .leader) scan pc (c .leads) here below;
       }
 
-  marked : (getD (c .slots) (length (c .slots) - 1 - c .depth) 0 ≡ cellOf (c .load) (c .local)) × (c .local < 256)
+  marked : (getD (c .slots) (length (c .slots) - 1 - c .depth) 0 ≡ cellOf (c .load) (c .local)) × (c .local < 65536)
   marked = cell-of-unpacked (getD (c .slots) (length (c .slots) - 1 - c .depth) 0) (c .load) (c .local) (c .slot)
 
   proven :
@@ -154,15 +154,16 @@ bytes-before (suc n) [] are i = lit< tt
 bytes-before (suc n) (x ∷ bytes) are zero = are 0
 bytes-before (suc n) (x ∷ bytes) are (suc i) = bytes-before n bytes (λ j. are (suc j)) i
 
+pub code-bytes : (bytes : List ℕ) (places : Places) → AreBytes bytes → AreBytes (partsOf bytes places .code)
+unfolding partsOf
+code-bytes bytes places are =
+    bytes-before (places .«code_length») (drop (places .code) bytes) (bytes-behind bytes (places .code) are)
+
 module _ (manner : Manner) (bytes : List ℕ) (places : Places) (pool : Pool) (room : ℕ) (out : List ℕ) (size scan block : ℕ)
     (are : AreBytes bytes) (reads : caseOf bytes ≡ cases.Parts places)
     (described : WellDescribed (partsOf bytes places) pool) where
   abbrev p : Parts
   p = partsOf bytes places
-
-  code-bytes : AreBytes (p .code)
-  unfolding partsOf
-  code-bytes = bytes-before (places .«code_length») (drop (places .code) bytes) (bytes-behind bytes (places .code) are)
 
   is-reported :
       reportIn manner bytes room (length out) ≡ Message size 2 scan block →
@@ -173,7 +174,7 @@ module _ (manner : Manner) (bytes : List ℕ) (places : Places) (pool : Pool) (r
         message = d .message;
         sized = d .sized;
         written = d .written;
-        evidence = name-is-evidence manner p pool room (d .message) scan block code-bytes described (d .says);
+        evidence = name-is-evidence manner p pool room (d .message) scan block (code-bytes bytes places are) described (d .says);
       }
 
 pub report-is-evidence : ReportIsEvidence

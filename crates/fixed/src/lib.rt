@@ -1,8 +1,9 @@
 // The lengths that an opcode alone fixes (document 01, "What changes shape"): one table of 256 entries. Those of the reserved opcodes
-// are 0 (document 02, request 6).
+// are 0 (document 02, request 6). And the lengths of `wide` before an opcode.
+use opcode::Opcode;
 ghost use mathlib.Core.Path.{_≡_};
 ghost use Rattle.basics.specs.Bytes.{byteAt};
-ghost use Rattle.fixed.specs.Fixed.{fixedLength, FixedLengths};
+ghost use Rattle.fixed.specs.Fixed.{fixedLength, wideBy, FixedLengths};
 
 // The table of fixed lengths, to be made once and lent.
 pub fn fixed_lengths() -> [u8; 256]
@@ -24,6 +25,13 @@ pub fn fixed_length(op: u8) -> u8
 {
     let lengths = fixed_lengths();
     fixed_by(&lengths, op)
+}
+
+// The bytes of `wide` before an opcode.
+pub fn wide_by(op: u8) -> u8
+    ensures { λ r. ⌜ r ≡ wideBy op ⌝ }
+{
+    if op == Opcode::IINC { 6 } else { 4 }
 }
 
 // The length of each opcode's instruction, 0 where the opcode fixes none: wide, tableswitch, lookupswitch and the reserved ones.

@@ -18,7 +18,7 @@ use Rattle.descriptor.proofs.Return.{behind-end}
 use Rattle.items.specs.Text.{descriptorOf}
 use Rattle.index.specs.Index.{foundBy}
 use Rattle.effects.specs.Lookup.{Lookup, Known, missing, known, knownBy}
-use Rattle.effects.specs.Rows.{aload, gets, calls, puts, makes}
+use Rattle.effects.specs.Rows.{aload, aloadFar, gets, calls, puts, makes}
 use Rattle.effects.proofs.Known.{known-none, known-some}
 use Rattle.walk.specs.Walk.{notModelled, cut, blanks, load, Effect, fails, does, getting, putting, calling, effectBy}
 use Rattle.instruction.specs.Code.{bare}
@@ -32,6 +32,16 @@ module _ (code : List ℕ) (pc : ℕ) (lookup : Lookup) where
 
   pub loads : pc + 1 < length code → does 0 (load (byteAt code (pc + 1))) ≡ bare (effectBy lookup code pc aload)
   loads l = rw (lt-ltb (pc + 1) (length code) l)
+
+-- of a local that two bytes behind a widened opcode name
+module _ (code : List ℕ) (pc : ℕ) (lookup : Lookup) where
+  pub far-cut : length code ≤ pc + 3 → fails notModelled ≡ bare (effectBy lookup code pc aloadFar)
+  far-cut l = rw (le-ltb (pc + 3) (length code) l)
+
+  pub loads-far :
+      (local : ℕ) → local ≡ u16At code (pc + 2) → pc + 3 < length code →
+      does 0 (load local) ≡ bare (effectBy lookup code pc aloadFar)
+  loads-far local is l = rw (is, lt-ltb (pc + 3) (length code) l)
 
 -- ---- arrays of so many dimensions
 

@@ -1,16 +1,14 @@
--- A call and a store to a field take few slots: a byte of a method's descriptor gives two at most, a field has two at most, and a
--- row takes one at most.
+-- A call and a store to a field take few slots: a byte of a method's descriptor gives two at most, and a field has two at most.
 -- Assumes nothing.
-use Prim.Native.Nat.{ℕ, zero, suc, _+_, _*_, _≤_, _<_}
+use Prim.Native.Nat.{ℕ, zero, suc, _+_, _*_, _≤_}
 use native.Mathlib.Omega.{arith}
-use mathlib.Core.Path.{_≡_, sym, subst}
+use mathlib.Core.Path.{_≡_}
 use mathlib.Core.Bool.{Bool, true, false}
 use mathlib.Core.List.{List}
-use lib.Dec.{T, eqb, leb, ltb, leb→le}
+use lib.Dec.{eqb, ltb}
 use lib.ListN.{length}
 use Rattle.basics.specs.Bytes.{byteAt, u16At}
 use Rattle.basics.specs.Choice.{pick}
-use Rattle.basics.proofs.Every.{every-at}
 use Rattle.descriptor.specs.Readers.{slotsOf, judged, parameters, fieldSlots}
 use Rattle.descriptor.specs.declared.Slots.the-variants.{Slots as SlotsOf, Unreadable as NoSlots}
 use Rattle.fieldtype.specs.Types.{isWide, fieldTypeAt, Types, over, unread, one, typesStep, listOver, typesFrom, typesAt, typesOf}
@@ -19,9 +17,6 @@ use Rattle.fieldtype.specs.declared.Taken.{Taken}
 use Rattle.fieldtype.specs.declared.Taken.the-variants as taken
 use Rattle.descriptor.proofs.Listing.{one-or-two}
 use Rattle.effects.specs.Lookup.{Known, missing, known, Lookup}
-use Rattle.effects.specs.Rows.{Row, unmodelled, opaque, aload, aloadOf, carries, keeps, gets, calls, puts, makes, rowOf, addedRow, fullRowOf, rowsOf}
-use Rattle.effects.specs.declared.Model.{Model}
-use Rattle.effects.specs.declared.Model.the-variants.{Document, Full}
 use Rattle.instruction.specs.Lookup.{slotsKnown, citedSlots}
 
 -- ---- arguments
@@ -74,29 +69,3 @@ few-cited lookup code pc slots e = by-test (ltb (pc + 2) (length code)) (lookup 
         let same : slots ≡ fieldSlots descriptor = cc in
         omega (arith, same, few-field descriptor)
     by-test false k e = let z : _≡_ {A = ℕ} 0 1 = cc in absurd (omega arith)
-
--- ---- rows
-
-abbrev fewTaken : Row → Bool
-fewTaken unmodelled = true
-fewTaken (opaque takes gives) = true
-fewTaken aload = true
-fewTaken (aloadOf local) = true
-fewTaken (carries takes places) = true
-fewTaken keeps = true
-fewTaken (gets takes) = true
-fewTaken (calls takes) = leb takes 1
-fewTaken (puts takes) = leb takes 1
-fewTaken makes = true
-
-few-taken : (model : Model) (op : ℕ) → op < 256 → T (fewTaken (rowsOf model op))
-unfolding rowOf addedRow fullRowOf
-few-taken Document op below = every-at (λ k. fewTaken (rowOf k)) 256 tt op below
-few-taken Full op below = every-at (λ k. fewTaken (fullRowOf k)) 256 tt op below
-
-module _ (model : Model) (op takes : ℕ) (below : op < 256) where
-  pub one-called : calls takes ≡ rowsOf model op → takes ≤ 1
-  one-called e = leb→le takes 1 (subst (λ (r : Row). T (fewTaken r)) (sym e) (few-taken model op below))
-
-  pub one-put : puts takes ≡ rowsOf model op → takes ≤ 1
-  one-put e = leb→le takes 1 (subst (λ (r : Row). T (fewTaken r)) (sym e) (few-taken model op below))

@@ -1,12 +1,15 @@
-// What an instruction does to the slots in a model, its operands read (document 01, "The walk"; document 02, request 1).
+// What an instruction does to the slots in a model, its operands read (document 01, "The walk"; document 02, requests
+// 1 and 7).
 use descriptor::Params;
 use descriptor::Slots;
 use effects::Model;
+use key::Key;
 use row::Row;
 ghost use mathlib.Core.Path.{_≡_};
 ghost use Prim.Native.Nat.{_-_, _≤_};
 ghost use lib.ListN.{length};
-ghost use Rattle.effects.specs.Rows.{rowsOf, aload as aloadRow, gets as getsRow, calls as callsRow, puts as putsRow, makes as makesRow};
+ghost use Rattle.effects.specs.Rows.{rowsOf, aload as aloadRow, aloadFar as farRow, gets as getsRow, calls as callsRow, puts as putsRow, makes as makesRow};
+ghost use Rattle.key.specs.Key.{keyFrom};
 ghost use Rattle.walk.specs.Walk.{effectBy};
 ghost use Rattle.walk.specs.Worked.{nothing};
 ghost use Rattle.instruction.specs.Code.{effectFrom, bare};
@@ -43,6 +46,18 @@ fn load_effect(code: &[u8], pc: usize) -> Effect
     }
     Effect::Load {
         local: code[pc + 1] as usize,
+    }
+}
+
+// The effect of `wide aload`, which names its local by the two bytes behind the opcode.
+fn far_effect(code: &[u8], pc: usize) -> Effect
+    ensures { λ r. ⌜ effectFrom r ≡ bare (effectBy nothing (now (code .entry)) pc farRow) ⌝ }
+{
+    if bytes_from(code, pc) < 4 {
+        return Effect::Fails;
+    }
+    Effect::Load {
+        local: reads::read_u16(code, pc + 2),
     }
 }
 
@@ -161,10 +176,10 @@ fn call_effect(
     }
 }
 
-// The effect of the instruction at pc, whose opcode is given. Members are looked up by a table of the run.
+// The effect of the instruction at pc, whose key is given. Members are looked up by a table of the run.
 pub fn effect_of(
     model: Model,
-    op: u8,
+    key: Key,
     code: &[u8],
     members: &[u8],
     count: usize,
@@ -172,12 +187,13 @@ pub fn effect_of(
     pc: usize,
 ) -> Effect
     ensures { λ r. ⌜ effectFrom r ≡ bare (effectBy (lookupBy (now (members .entry)) count (now (table .entry)))
-        (now (code .entry)) pc (rowsOf model op)) ⌝ }
+        (now (code .entry)) pc (rowsOf model (keyFrom key))) ⌝ }
 {
-    match row::row_in(model, op) {
+    match row::row_in(model, key) {
         Row::Unmodelled => Effect::Fails,
         Row::Opaque { takes, gives } => Effect::Opaque { takes, gives },
         Row::Aload => load_effect(code, pc),
+        Row::AloadFar => far_effect(code, pc),
         Row::AloadOf { local } => Effect::Load { local },
         Row::Copies {
             count: copies,

@@ -4,12 +4,14 @@ use Prim.Native.Nat.{ℕ}
 use mathlib.Core.Path.{refl}
 use Rattle.basics.specs.Bytes.{u16At}
 use Rattle.jvms.specs.ByName.{none, _&_, InstructionsByName}
+use Rattle.jvms.specs.Extent.{extentAt}
+use Rattle.jvms.specs.Format.{formats, formatOf}
 use Rattle.jvms.specs.Machine.{target}
 use Rattle.jvms.specs.Stack.{entries, entryOf}
 
 pub instructions-by-name :
     (Val : Type 0) (opaque : ℕ → ℕ → Val) (locals : ℕ → Val) (a b c d e : Val) → InstructionsByName Val opaque locals a b c d e
-unfolding entries entryOf target u16At
+unfolding entries entryOf target u16At extentAt formats formatOf
 instructions-by-name Val opaque locals a b c d e =
     record {
       pop = refl;
@@ -34,7 +36,7 @@ instructions-by-name Val opaque locals a b c d e =
       laload = refl;
       aaloadFrom = refl;
       arrayStores = refl & refl & refl & refl & refl & refl & none;
-      wideStores = refl & refl & none;
+      longArrayStores = refl & refl & none;
       dastoreTo = refl;
       getfieldInt = refl;
       getfieldLong = refl;
@@ -52,4 +54,10 @@ instructions-by-name Val opaque locals a b c d e =
       invokevirtualInt = refl;
       invokevirtualLong = refl;
       invokevirtualFrom = refl;
+      wideAload = refl;
+      wideLload = refl;
+      wideAstore = refl;
+      wideAstored = refl;
+      wideIinc = refl;
+      wideIincBytes = refl;
     }

@@ -2,21 +2,21 @@
 -- opcodes is one computed test.
 -- Assumes nothing.
 use Prim.Native.Nat.{ℕ, zero, suc, _-_, _%_, _≤_}
+use native.Mathlib.Omega.{arith}
 use native.Mathlib.Nat.{add-zero, le-of-suc-le-suc, not-suc-le-zero}
-use mathlib.Core.Path.{_≡_, refl, _∙_, sym, subst}
+use mathlib.Core.Path.{_≡_, refl, _∙_, sym, ap, subst}
 use mathlib.Core.Bool.{Bool, true, false}
 use mathlib.Core.List.{List, [], _∷_}
 use lib.Dec.{T, eqb, leb, ltb, eqb→eq, leb→le}
 use lib.ListN.{length}
-use borrow.Author.Tests.{eqb-true, le-leb, ltb-true, ltb-false}
-use Rattle.basics.specs.Bytes.{byteAt}
+use borrow.Author.Tests.{eqb-true, le-leb, le-ltb, ltb-true, ltb-false}
 use Rattle.basics.specs.Choice.{pick, both, alike, oneOf}
 use Rattle.basics.proofs.Every.{both-first, both-second, alike-is, every, every-at}
 use Rattle.jvms.specs.Laws.{oneSlotLoads, twoSlotLoads, oneSlotStores, twoSlotStores, localNamed}
 use Rattle.jvms.specs.Machine.{localAt}
 use Rattle.jvms.specs.Stack.{Operand, int, long, float, double, reference, category1, category2, field, parameters}
-use Rattle.jvms.specs.Stack.{Local, indexed, numbered, Entry, unlisted, does, eitherOf, loads, stores, increments, throws}
-use Rattle.jvms.specs.Stack.{returned, dimensions, Cited, slotsOf, slotsIn, entries, entryIn, entryOf}
+use Rattle.jvms.specs.Stack.{Local, indexed, far, numbered, Entry, unlisted, does, eitherOf, loads, stores, increments, throws}
+use Rattle.jvms.specs.Stack.{returned, dimensions, Cited, slotsOf, slotsIn, entries, entryIn, widened, keyAt, keyCount, entryOf}
 
 -- ---- tests at the opcodes of a list, and at every entry of the table
 
@@ -40,19 +40,20 @@ past [] op h = refl
 past (e ∷ es) zero h = absurd (not-suc-le-zero h)
 past (e ∷ es) (suc op) h = past es op (le-of-suc-le-suc h)
 
-unlisted-from-202 : (op : ℕ) → 202 ≤ op → entryOf op ≡ unlisted
+unlisted-behind : (key : ℕ) → keyCount ≤ key → entryOf key ≡ unlisted
 unfolding entries entryOf
-unlisted-from-202 op h = past entries op h
+unlisted-behind key h =
+    rw (le-ltb key 256 (omega arith)) (ap widened (past entries (key - 256) (omega arith)))
 
--- a test of opcode and entry that passes in the table, and at an opcode that has no entry
+-- a test of key and entry that passes in the table, and at a key that has no entry
 pub every-entry :
-    (test : ℕ → Entry → Bool) → T (every (λ op. test op (entryOf op)) 202) → ((op : ℕ) → T (test op unlisted)) →
-    (op : ℕ) → T (test op (entryOf op))
-every-entry test t none op = by-place (ltb op 202) refl
+    (test : ℕ → Entry → Bool) → T (every (λ key. test key (entryOf key)) keyCount) → ((key : ℕ) → T (test key unlisted)) →
+    (key : ℕ) → T (test key (entryOf key))
+every-entry test t none key = by-place (ltb key keyCount) refl
   where
-    by-place : (b : Bool) → ltb op 202 ≡ b → T (test op (entryOf op))
-    by-place true e = every-at (λ k. test k (entryOf k)) 202 t op (ltb-true op 202 e)
-    by-place false e = rw (unlisted-from-202 op (ltb-false op 202 e)) (none op)
+    by-place : (b : Bool) → ltb key keyCount ≡ b → T (test key (entryOf key))
+    by-place true e = every-at (λ k. test k (entryOf k)) keyCount t key (ltb-true key keyCount e)
+    by-place false e = rw (unlisted-behind key (ltb-false key keyCount e)) (none key)
 
 -- ---- slots that no cited member changes
 
@@ -103,20 +104,30 @@ none-is (o ∷ os) t = absurd t
 
 -- ---- which local
 
--- by the byte behind the opcode up to the last opcode that has one, above it by the number in the name
+-- after `wide` by two bytes; else by the byte behind the opcode up to the last opcode that has one, above it by the number in the name
 abbrev pub names : ℕ → Local → ℕ → Bool
-names last indexed op = leb op last
-names last (numbered n) op = both (alike (leb op last) false) (eqb n ((op - suc last) % 4))
+names last far key = leb 256 key
+names last indexed key = both (alike (leb 256 key) false) (leb key last)
+names last (numbered n) key =
+    both (alike (leb 256 key) false) (both (alike (leb key last) false) (eqb n ((key - suc last) % 4)))
 
 pub named :
-    (last : ℕ) (l : Local) (code : List ℕ) (pc : ℕ) → T (names last l (byteAt code pc)) →
+    (last : ℕ) (l : Local) (code : List ℕ) (pc : ℕ) → T (names last l (keyAt code pc)) →
     localAt code pc l ≡ localNamed last code pc
-named last indexed code pc t = rw (le-leb (byteAt code pc) last (leb→le (byteAt code pc) last t))
+named last far code pc t = rw (le-leb 256 (keyAt code pc) (leb→le 256 (keyAt code pc) t))
+named last indexed code pc t =
+    let key = keyAt code pc in
+    let near = both-first (alike (leb 256 key) false) (leb key last) t in
+    let early = both-second (alike (leb 256 key) false) (leb key last) t in
+    rw (alike-is (leb 256 key) false near, le-leb key last (leb→le key last early))
 named last (numbered n) code pc t =
-    let op = byteAt code pc in
-    let above = both-first (alike (leb op last) false) (eqb n ((op - suc last) % 4)) t in
-    let number = both-second (alike (leb op last) false) (eqb n ((op - suc last) % 4)) t in
-    rw (alike-is (leb op last) false above) (eqb→eq n ((op - suc last) % 4) number)
+    let key = keyAt code pc in
+    let rest : Bool = both (alike (leb key last) false) (eqb n ((key - suc last) % 4)) in
+    let near = both-first (alike (leb 256 key) false) rest t in
+    let later = both-second (alike (leb 256 key) false) rest t in
+    let above = both-first (alike (leb key last) false) (eqb n ((key - suc last) % 4)) later in
+    let number = both-second (alike (leb key last) false) (eqb n ((key - suc last) % 4)) later in
+    rw (alike-is (leb 256 key) false near, alike-is (leb key last) false above) (eqb→eq n ((key - suc last) % 4) number)
 
 -- ---- stores and loads
 
@@ -127,7 +138,7 @@ isStore slots op (does f) = false
 isStore slots op (eitherOf f others) = false
 isStore slots op (loads l f) = false
 isStore slots op (stores l f) = both (names 58 l op) (both (single slots (f .before)) (isNone (f .after)))
-isStore slots op (increments f) = false
+isStore slots op (increments l f) = false
 isStore slots op (throws os) = false
 
 -- nothing is taken and one result comes from the local; the last load with a byte behind it is aload, 25
@@ -137,7 +148,7 @@ isLoad slots op (does f) = false
 isLoad slots op (eitherOf f others) = false
 isLoad slots op (loads l f) = both (names 25 l op) (both (isNone (f .before)) (single slots (f .after)))
 isLoad slots op (stores l f) = false
-isLoad slots op (increments f) = false
+isLoad slots op (increments l f) = false
 isLoad slots op (throws os) = false
 
 pub one-slot-stores : (op : ℕ) → T (oneOf oneSlotStores op) → T (isStore 1 op (entryOf op))

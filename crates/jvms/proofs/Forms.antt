@@ -20,7 +20,7 @@ oneForm (does f) = true
 oneForm (eitherOf f others) = false
 oneForm (loads l f) = true
 oneForm (stores l f) = true
-oneForm (increments f) = true
+oneForm (increments l f) = true
 oneForm (throws os) = true
 
 -- pop2, dup_x2, dup2, dup2_x1, dup2_x2
@@ -66,7 +66,7 @@ module _ {Val : Type 0} (cited : Cited) (own : ℕ → Val) where
   AlikeAt taken (eitherOf f others) = Alike taken f others
   AlikeAt taken (loads l f) = Unit
   AlikeAt taken (stores l f) = Unit
-  AlikeAt taken (increments f) = Unit
+  AlikeAt taken (increments l f) = Unit
   AlikeAt taken (throws os) = Unit
 
   pop2-alike : (t : List Val) → AlikeAt t (entryOf 88)
@@ -107,7 +107,7 @@ module _ {Val : Type 0} (cited : Cited) (own : ℕ → Val) where
   one-alike t (eitherOf f others) s = absurd s
   one-alike t (loads l f) s = tt
   one-alike t (stores l f) s = tt
-  one-alike t (increments f) s = tt
+  one-alike t (increments l f) s = tt
   one-alike t (throws os) s = tt
 
   all-alike : (t : List Val) (op : ℕ) → AlikeAt t (entryOf op)

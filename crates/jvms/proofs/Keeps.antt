@@ -7,12 +7,12 @@ use mathlib.Core.Bool.{Bool, true, false}
 use mathlib.Core.List.{List, _++_, append-nil}
 use lib.Dec.{T}
 use lib.ListN.{take}
-use Rattle.basics.specs.Bytes.{byteAt}
+use Rattle.basics.specs.Bytes.{byteAt, u16At}
 use Rattle.basics.specs.Choice.{pick}
 use Rattle.basics.proofs.Choice.{chosen}
 use Rattle.jvms.specs.Laws.{writesLocals, isListed, WroteOne}
 use Rattle.jvms.specs.Machine.{Pool, citedAt, State, below, topmost, perform, next}
-use Rattle.jvms.specs.Stack.{Entry, unlisted, does, eitherOf, loads, stores, increments, throws, Cited, entries, entryOf, entryAt}
+use Rattle.jvms.specs.Stack.{Entry, unlisted, does, eitherOf, loads, stores, increments, throws, Cited, entries, keyAt, entryOf, entryAt}
 use Rattle.jvms.proofs.Entries.{every-entry}
 use Rattle.jvms.proofs.Slots.{below-none, put-back, wrote-one}
 
@@ -23,7 +23,7 @@ leavesLocals (does f) = true
 leavesLocals (eitherOf f others) = true
 leavesLocals (loads l f) = true
 leavesLocals (stores l f) = false
-leavesLocals (increments f) = false
+leavesLocals (increments l f) = false
 leavesLocals (throws os) = true
 
 others-leave : (op : ℕ) → T (pick (writesLocals op) true (leavesLocals (entryOf op)))
@@ -39,7 +39,7 @@ module _ {Val : Type 0} where
     left (eitherOf f others) t = refl
     left (loads l f) t = refl
     left (stores l f) t = absurd t
-    left (increments f) t = absurd t
+    left (increments l f) t = absurd t
     left (throws os) t = refl
 
     stayed : (e : Entry) → (T (isListed e) → ⊥) → perform cited code own st e ≡ st
@@ -48,7 +48,7 @@ module _ {Val : Type 0} where
     stayed (eitherOf f others) n = absurd (n tt)
     stayed (loads l f) n = absurd (n tt)
     stayed (stores l f) n = absurd (n tt)
-    stayed (increments f) n = absurd (n tt)
+    stayed (increments l f) n = absurd (n tt)
     stayed (throws os) n = refl
 
     checkcast-stack : perform cited code own st (entryOf 192) .stack ≡ st .stack
@@ -65,33 +65,50 @@ module _ {Val : Type 0} where
     unfolding entries entryOf
     iinc-locals = wrote-one (st .locals) (byteAt code (st .pc + 1)) (own 0)
 
+    wide-iinc-stack : perform cited code own st (entryOf 388) .stack ≡ st .stack
+    unfolding entries entryOf
+    wide-iinc-stack = append-nil (below 0 (st .stack)) ∙ below-none (st .stack)
+
+    wide-iinc-locals :
+        WroteOne (st .locals) (perform cited code own st (entryOf 388) .locals) (u16At code (st .pc + 2)) (own 0)
+    unfolding entries entryOf
+    wide-iinc-locals = wrote-one (st .locals) (u16At code (st .pc + 2)) (own 0)
+
     athrow-state : perform cited code own st (entryOf 191) ≡ st
     unfolding entries entryOf
     athrow-state = refl
 
   module _ (pool : Pool) (code : List ℕ) (opaque : ℕ → ℕ → Val) (st : State Val) where
     pub iinc-writes :
-        byteAt code (st .pc) ≡ 132 →
+        keyAt code (st .pc) ≡ 132 →
         (next pool code opaque st .stack ≡ st .stack)
         × WroteOne (st .locals) (next pool code opaque st .locals) (byteAt code (st .pc + 1)) (opaque (st .pc) 0)
     iinc-writes e =
         let cited = citedAt pool code (st .pc) in
         rw e (iinc-stack cited code (opaque (st .pc)) st, iinc-locals cited code (opaque (st .pc)) st)
 
-    pub athrow-stays : byteAt code (st .pc) ≡ 191 → next pool code opaque st ≡ st
+    pub wide-iinc-writes :
+        keyAt code (st .pc) ≡ 388 →
+        (next pool code opaque st .stack ≡ st .stack)
+        × WroteOne (st .locals) (next pool code opaque st .locals) (u16At code (st .pc + 2)) (opaque (st .pc) 0)
+    wide-iinc-writes e =
+        let cited = citedAt pool code (st .pc) in
+        rw e (wide-iinc-stack cited code (opaque (st .pc)) st, wide-iinc-locals cited code (opaque (st .pc)) st)
+
+    pub athrow-stays : keyAt code (st .pc) ≡ 191 → next pool code opaque st ≡ st
     athrow-stays e = rw e (athrow-state (citedAt pool code (st .pc)) code (opaque (st .pc)) st)
 
     pub unlisted-stays : isListed (entryAt code (st .pc)) ≡ false → next pool code opaque st ≡ st
     unlisted-stays n =
         stayed (citedAt pool code (st .pc)) code (opaque (st .pc)) st (entryAt code (st .pc)) (λ t. rw n at t)
 
-    pub keeps-locals : writesLocals (byteAt code (st .pc)) ≡ false → next pool code opaque st .locals ≡ st .locals
+    pub keeps-locals : writesLocals (keyAt code (st .pc)) ≡ false → next pool code opaque st .locals ≡ st .locals
     keeps-locals n =
-        let op = byteAt code (st .pc) in
+        let op = keyAt code (st .pc) in
         left (citedAt pool code (st .pc)) code (opaque (st .pc)) st (entryOf op) (rw n at (others-leave op))
 
     pub checkcast-keeps :
-        byteAt code (st .pc) ≡ 192 →
+        keyAt code (st .pc) ≡ 192 →
         (next pool code opaque st .stack ≡ st .stack) × (next pool code opaque st .locals ≡ st .locals)
     checkcast-keeps e =
         (rw e (checkcast-stack (citedAt pool code (st .pc)) code (opaque (st .pc)) st), keeps-locals (ap writesLocals e))

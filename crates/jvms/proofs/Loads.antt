@@ -5,13 +5,12 @@ use native.Mathlib.Nat.{add-zero}
 use mathlib.Core.Path.{_≡_, refl, _∙_, ap, ap₂}
 use mathlib.Core.List.{List, [], _∷_, _++_, append-nil}
 use lib.Dec.{T}
-use Rattle.basics.specs.Bytes.{byteAt}
 use Rattle.basics.specs.Choice.{both, oneOf}
 use Rattle.basics.proofs.Every.{both-first, both-second}
 use Rattle.jvms.specs.Laws.{oneSlotLoads, twoSlotLoads, localLoaded}
 use Rattle.jvms.specs.Machine.{Pool, citedAt, localAt, State, topmost, run, results, replaced, perform, next}
 use Rattle.jvms.specs.Stack.{Operand, _⇒_, Entry, unlisted, does, eitherOf, loads, stores, increments, throws}
-use Rattle.jvms.specs.Stack.{Cited, slotsOf, entryOf}
+use Rattle.jvms.specs.Stack.{Cited, slotsOf, keyAt, entryOf}
 use Rattle.jvms.proofs.Entries.{single, weighed, isNone, none-is, names, named, isLoad, one-slot-loads, two-slot-loads}
 use Rattle.jvms.proofs.Slots.{below-none}
 
@@ -27,14 +26,14 @@ module _ {Val : Type 0} where
 
   module _ (cited : Cited) (code : List ℕ) (own : ℕ → Val) (st : State Val) (slots : ℕ) where
     loaded :
-        (e : Entry) → T (isLoad slots (byteAt code (st .pc)) e) →
+        (e : Entry) → T (isLoad slots (keyAt code (st .pc)) e) →
         (perform cited code own st e .stack ≡ st .stack ++ run slots 0 (λ k. st .locals (localLoaded code (st .pc) + k)))
         × (perform cited code own st e .locals ≡ st .locals)
     loaded unlisted t = absurd t
     loaded (does f) t = absurd t
     loaded (eitherOf f others) t = absurd t
     loaded (loads l f) t =
-        let naming = names 25 l (byteAt code (st .pc)) in
+        let naming = names 25 l (keyAt code (st .pc)) in
         let none = isNone (f .before) in
         let one = single slots (f .after) in
         let form = both-second naming (both none one) t in
@@ -48,27 +47,27 @@ module _ {Val : Type 0} where
           refl,
         )
     loaded (stores l f) t = absurd t
-    loaded (increments f) t = absurd t
+    loaded (increments l f) t = absurd t
     loaded (throws os) t = absurd t
 
   module _ (pool : Pool) (code : List ℕ) (opaque : ℕ → ℕ → Val) (st : State Val) where
     pub loads-one :
-        T (oneOf oneSlotLoads (byteAt code (st .pc))) →
+        T (oneOf oneSlotLoads (keyAt code (st .pc))) →
         (next pool code opaque st .stack ≡ st .stack ++ (st .locals (localLoaded code (st .pc)) ∷ []))
         × (next pool code opaque st .locals ≡ st .locals)
     loads-one among =
-        let op = byteAt code (st .pc) in
+        let op = keyAt code (st .pc) in
         let n = localLoaded code (st .pc) in
         let left = loaded (citedAt pool code (st .pc)) code (opaque (st .pc)) st 1 (entryOf op) (one-slot-loads op among) in
         (left .0 ∙ ap (λ (i : ℕ). st .stack ++ (st .locals i ∷ [])) (add-zero n), left .1)
 
     pub loads-two :
-        T (oneOf twoSlotLoads (byteAt code (st .pc))) →
+        T (oneOf twoSlotLoads (keyAt code (st .pc))) →
         (next pool code opaque st .stack
         ≡ st .stack ++ (st .locals (localLoaded code (st .pc)) ∷ st .locals (localLoaded code (st .pc) + 1) ∷ []))
         × (next pool code opaque st .locals ≡ st .locals)
     loads-two among =
-        let op = byteAt code (st .pc) in
+        let op = keyAt code (st .pc) in
         let n = localLoaded code (st .pc) in
         let left = loaded (citedAt pool code (st .pc)) code (opaque (st .pc)) st 2 (entryOf op) (two-slot-loads op among) in
         (left .0 ∙ ap (λ (i : ℕ). st .stack ++ (st .locals i ∷ st .locals (n + 1) ∷ [])) (add-zero n), left .1)

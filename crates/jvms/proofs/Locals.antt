@@ -1,4 +1,4 @@
--- The machine's locals are 0 to 256: no other is read, and no other is written.
+-- The machine's locals are 0 to 65,536: no other is read, and no other is written.
 -- Assumes nothing.
 use Prim.Native.Nat.{ℕ, zero, suc, _+_, _≤_, _<_}
 use native.Mathlib.Omega.{arith}
@@ -6,24 +6,26 @@ use mathlib.Core.Path.{_≡_, refl, _∙_, ap, ap₂, subst₂}
 use mathlib.Core.Bool.{Bool, true, false}
 use mathlib.Core.List.{List, [], _∷_, _++_}
 use lib.Dec.{T, eqb, leb, leb→le}
-use Rattle.basics.specs.Bytes.{byteAt, AreBytes}
+use Rattle.basics.specs.Bytes.{AreBytes}
 use Rattle.basics.specs.Choice.{pick, both}
+use Rattle.basics.proofs.Bytes.{u16-below}
 use Rattle.basics.proofs.Every.{both-first, both-second}
 use Rattle.jvms.specs.Laws.{Alike}
 use Rattle.jvms.specs.Machine.{Pool, citedAt, localAt, State, bears, below, topmost, run, written, slotsNamed, results}
 use Rattle.jvms.specs.Machine.{perform, next, ran}
-use Rattle.jvms.specs.Stack.{Operand, Local, indexed, numbered, Entry, unlisted, does, eitherOf, loads, stores}
-use Rattle.jvms.specs.Stack.{increments, throws, nameOf, Cited, slotsOf, slotsIn, entries, entryOf}
+use Rattle.jvms.specs.Stack.{Operand, Local, indexed, far, numbered, Entry, unlisted, does, eitherOf, loads, stores}
+use Rattle.jvms.specs.Stack.{increments, throws, nameOf, Cited, slotsOf, slotsIn, entries, keyAt, entryOf}
 use Rattle.jvms.proofs.Entries.{every-entry, single, single-slots}
 use Rattle.jvms.proofs.Slots.{topmost-few, written-beyond}
 
--- ---- the table's loads and stores are of one or two slots, from a local below 256 on
+-- ---- the table's loads and stores are of one or two slots, from a local below 65,536 on
 
 abbrev few : List Operand → Bool
 few os = pick (single 1 os) true (single 2 os)
 
 abbrev early : Local → Bool
 early indexed = true
+early far = true
 early (numbered n) = leb n 255
 
 abbrev near : Entry → Bool
@@ -32,7 +34,7 @@ near (does f) = true
 near (eitherOf f others) = true
 near (loads l f) = both (early l) (few (f .after))
 near (stores l f) = both (early l) (few (f .before))
-near (increments f) = true
+near (increments l f) = early l
 near (throws os) = true
 
 all-near : (op : ℕ) → T (near (entryOf op))
@@ -46,8 +48,9 @@ few-slots cited os t = by-one (single 1 os) refl t
     by-one true e u = omega (arith, single-slots cited 1 os (rw e tt))
     by-one false e u = omega (arith, single-slots cited 2 os u)
 
-early-local : (code : List ℕ) → AreBytes code → (pc : ℕ) (l : Local) → T (early l) → localAt code pc l < 256
-early-local code are pc indexed t = are (pc + 1)
+early-local : (code : List ℕ) → AreBytes code → (pc : ℕ) (l : Local) → T (early l) → localAt code pc l < 65536
+early-local code are pc indexed t = omega (arith, are (pc + 1))
+early-local code are pc far t = u16-below code are (pc + 2)
 early-local code are pc (numbered n) t = omega (arith, leb→le n 255 t)
 
 module _ {Val : Type 0} where
@@ -82,7 +85,7 @@ module _ {Val : Type 0} where
 
     module _ (cited : Cited) (own : ℕ → Val) (pc : ℕ) (stack : List Val) where
       performed-alike :
-          (f g : ℕ → Val) → ((i : ℕ) → i ≤ 256 → f i ≡ g i) → (e : Entry) → T (near e) →
+          (f g : ℕ → Val) → ((i : ℕ) → i ≤ 65536 → f i ≡ g i) → (e : Entry) → T (near e) →
           Alike (perform cited code own (state pc stack f) e) (perform cited code own (state pc stack g) e)
       performed-alike f g same unlisted t = record { pc = refl; stack = refl; locals = same }
       performed-alike f g same (does form) t = record { pc = refl; stack = refl; locals = same }
@@ -106,16 +109,16 @@ module _ {Val : Type 0} where
             locals =
                 λ i h. written-same f g (localAt code pc l) (topmost (slotsIn cited (form .before)) stack) i (same i h);
           }
-      performed-alike f g same (increments form) t =
+      performed-alike f g same (increments l form) t =
           record {
             pc = refl;
             stack = refl;
-            locals = λ i h. written-same f g (localAt code pc indexed) (own 0 ∷ []) i (same i h);
+            locals = λ i h. written-same f g (localAt code pc l) (own 0 ∷ []) i (same i h);
           }
       performed-alike f g same (throws os) t = record { pc = refl; stack = refl; locals = same }
 
     performed-above :
-        (cited : Cited) (own : ℕ → Val) (st : State Val) (i : ℕ) → 256 < i → (e : Entry) → T (near e) →
+        (cited : Cited) (own : ℕ → Val) (st : State Val) (i : ℕ) → 65536 < i → (e : Entry) → T (near e) →
         perform cited code own st e .locals i ≡ st .locals i
     performed-above cited own st i above unlisted t = refl
     performed-above cited own st i above (does f) t = refl
@@ -127,8 +130,8 @@ module _ {Val : Type 0} where
         let slots = few-slots cited (f .before) (both-second (early l) (few (f .before)) t) in
         written-beyond (st .locals) (localAt code (st .pc) l) taken i
         (omega (arith, topmost-few (slotsIn cited (f .before)) (st .stack)))
-    performed-above cited own st i above (increments f) t =
-        written-beyond (st .locals) (localAt code (st .pc) indexed) (own 0 ∷ []) i (omega (arith, are (st .pc + 1)))
+    performed-above cited own st i above (increments l f) t =
+        written-beyond (st .locals) (localAt code (st .pc) l) (own 0 ∷ []) i (omega (arith, early-local code are (st .pc) l t))
     performed-above cited own st i above (throws os) t = refl
 
     -- ---- and any number of them
@@ -139,23 +142,23 @@ module _ {Val : Type 0} where
 
       next-alike : (x y : State Val) → Alike x y → Alike (step x) (step y)
       next-alike x y same =
-          let op = byteAt code (x .pc) in
+          let op = keyAt code (x .pc) in
           subst₂ (λ (pc : ℕ) (stack : List Val). Alike (step x) (step (state pc stack (y .locals)))) (same .pc) (same .stack)
           (performed-alike (citedAt pool code (x .pc)) (opaque (x .pc)) (x .pc) (x .stack) (x .locals) (y .locals)
           (same .locals) (entryOf op) (all-near op))
 
-      pub reads-to-256 :
+      pub reads-to-65536 :
           (k : ℕ) (x y : State Val) → Alike x y → Alike (ran pool code opaque k x) (ran pool code opaque k y)
       unfolding ran
-      reads-to-256 zero x y same = same
-      reads-to-256 (suc k) x y same =
-          reads-to-256 k (step x) (step y) (next-alike x y same)
+      reads-to-65536 zero x y same = same
+      reads-to-65536 (suc k) x y same =
+          reads-to-65536 k (step x) (step y) (next-alike x y same)
 
-      pub writes-to-256 :
-          (k : ℕ) (st : State Val) (i : ℕ) → 256 < i → ran pool code opaque k st .locals i ≡ st .locals i
+      pub writes-to-65536 :
+          (k : ℕ) (st : State Val) (i : ℕ) → 65536 < i → ran pool code opaque k st .locals i ≡ st .locals i
       unfolding ran
-      writes-to-256 zero st i above = refl
-      writes-to-256 (suc k) st i above =
-          let op = byteAt code (st .pc) in
-          writes-to-256 k (step st) i above
+      writes-to-65536 zero st i above = refl
+      writes-to-65536 (suc k) st i above =
+          let op = keyAt code (st .pc) in
+          writes-to-65536 k (step st) i above
           ∙ performed-above (citedAt pool code (st .pc)) (opaque (st .pc)) st i above (entryOf op) (all-near op)

@@ -28,6 +28,10 @@ module _ {Val : Type 0} (opaque : ℕ → ℕ → Val) (locals : ℕ → Val) wh
   abbrev pub leaves : Pool → List ℕ → List Val → List Val
   leaves pool code stack = next pool code opaque (startingWith stack) .stack
 
+  -- what it leaves in a local
+  abbrev pub holds : Pool → List ℕ → List Val → ℕ → Val
+  holds pool code stack n = next pool code opaque (startingWith stack) .locals n
+
   -- what it would dereference
   abbrev pub dereferences : Pool → List ℕ → List Val → List Val
   dereferences pool code stack = target pool code (startingWith stack)
@@ -87,7 +91,7 @@ pub record InstructionsByName (Val : Type 0) (opaque : ℕ → ℕ → Val) (loc
   pub aaloadFrom : dereferences opaque locals small (0x32 ∷ []) (a ∷ b ∷ c ∷ []) ≡ b ∷ []
   -- iastore, fastore, aastore, bastore, castore, sastore; lastore, dastore: "..., arrayref, index, value → ..."
   pub arrayStores : EachLeaves opaque locals (a ∷ b ∷ c ∷ d ∷ []) (a ∷ []) (79 ∷ 81 ∷ 83 ∷ 84 ∷ 85 ∷ 86 ∷ [])
-  pub wideStores : EachLeaves opaque locals (a ∷ b ∷ c ∷ d ∷ e ∷ []) (a ∷ []) (80 ∷ 82 ∷ [])
+  pub longArrayStores : EachLeaves opaque locals (a ∷ b ∷ c ∷ d ∷ e ∷ []) (a ∷ []) (80 ∷ 82 ∷ [])
   pub dastoreTo : dereferences opaque locals small (0x52 ∷ []) (a ∷ b ∷ c ∷ d ∷ e ∷ []) ≡ b ∷ []
   -- getfield: "..., objectref → ..., value", of a field I and of a field J
   pub getfieldInt : leaves opaque locals small (0xb4 ∷ 0 ∷ 1 ∷ []) (a ∷ b ∷ []) ≡ a ∷ opaque 0 0 ∷ []
@@ -113,3 +117,11 @@ pub record InstructionsByName (Val : Type 0) (opaque : ℕ → ℕ → Val) (loc
   pub invokevirtualLong :
       leaves opaque locals large (0xb6 ∷ 0 ∷ 1 ∷ []) (a ∷ b ∷ c ∷ d ∷ []) ≡ opaque 0 0 ∷ opaque 0 1 ∷ []
   pub invokevirtualFrom : dereferences opaque locals large (0xb6 ∷ 0 ∷ 1 ∷ []) (a ∷ b ∷ c ∷ d ∷ []) ≡ a ∷ []
+  -- wide aload 300, wide lload 300, wide astore 300: as aload, lload, astore, of "a 16-bit unsigned index"
+  pub wideAload : leaves opaque locals small (0xc4 ∷ 0x19 ∷ 1 ∷ 44 ∷ []) (a ∷ []) ≡ a ∷ locals 300 ∷ []
+  pub wideLload : leaves opaque locals small (0xc4 ∷ 0x16 ∷ 1 ∷ 44 ∷ []) (a ∷ []) ≡ a ∷ locals 300 ∷ locals 301 ∷ []
+  pub wideAstore : leaves opaque locals small (0xc4 ∷ 0x3a ∷ 1 ∷ 44 ∷ []) (a ∷ b ∷ []) ≡ a ∷ []
+  pub wideAstored : holds opaque locals small (0xc4 ∷ 0x3a ∷ 1 ∷ 44 ∷ []) (a ∷ b ∷ []) 300 ≡ b
+  -- wide iinc 300 by 5: the local, and six bytes
+  pub wideIinc : holds opaque locals small (0xc4 ∷ 0x84 ∷ 1 ∷ 44 ∷ 0 ∷ 5 ∷ []) [] 300 ≡ opaque 0 0
+  pub wideIincBytes : next small (0xc4 ∷ 0x84 ∷ 1 ∷ 44 ∷ 0 ∷ 5 ∷ []) opaque (startingWith opaque locals []) .pc ≡ 6

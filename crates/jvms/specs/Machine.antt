@@ -1,6 +1,6 @@
 -- The plain machine of condition 3 (document 01, "The plain machine"), on values of any type, one to a slot. Written from JVMS
--- 6.5 alone. The stack is a list, bottom first. Locals are a function of every number; nothing above 256 is read or written.
--- No instruction throws. One that has no entry or no length is never left, and neither is athrow.
+-- 6.5 alone. The stack is a list, bottom first. Locals are a function of every number; nothing above 65,536 is read or written: "The
+-- plain machine has locals 0 to 65,536" (document 02, request 7). No instruction throws. One that has no entry or no length is never left, and neither is athrow.
 -- Assumes nothing.
 use Prim.Native.Nat.{ℕ, zero, suc, _+_, _-_}
 use mathlib.Core.Bool.{Bool, true, false}
@@ -11,7 +11,7 @@ use Rattle.basics.specs.Bytes.{byteAt, u16At}
 use Rattle.basics.specs.Choice.{pick}
 use Rattle.jvms.specs.Descriptor.{FieldType, MethodType, slots, slotsAll, returnSlots}
 use Rattle.jvms.specs.Extent.{Extent, takes, reservedOpcode, notWidened, lowAboveHigh, negativePairs, extentAt}
-use Rattle.jvms.specs.Stack.{Name, objectref, arrayref, Operand, Form, Local, indexed, numbered, Entry, unlisted, does, eitherOf, loads, stores, increments, throws}
+use Rattle.jvms.specs.Stack.{Name, objectref, arrayref, Operand, Form, Local, indexed, far, numbered, Entry, unlisted, does, eitherOf, loads, stores, increments, throws}
 use Rattle.jvms.specs.Stack.{Cited, slotsOf, slotsIn, nameOf, sameName, entryAt, operandsOf}
 
 -- what each pool index stands for, as trees of JVMS 4.3
@@ -30,9 +30,10 @@ citedAt pool code pc =
       dims = byteAt code (pc + 3);
     }
 
--- "The index is an unsigned byte", or stands in the opcode's name
+-- "The index is an unsigned byte"; behind `wide` and an opcode it is "(indexbyte1 << 8) | indexbyte2"; or it stands in the opcode's name
 abbrev pub localAt : List ℕ → ℕ → Local → ℕ
 localAt code pc indexed = byteAt code (pc + 1)
+localAt code pc far = u16At code (pc + 2)
 localAt code pc (numbered n) = n
 
 -- the bytes of the instruction at pc, by its format
@@ -114,8 +115,8 @@ module _ {Val : Type 0} where
       perform (stores l f) =
           onward (replaced f opaque (st .stack))
           (written (st .locals) (localAt code (st .pc) l) (topmost (slotsIn cited (f .before)) (st .stack)))
-      perform (increments f) =
-          onward (replaced f opaque (st .stack)) (written (st .locals) (localAt code (st .pc) indexed) (opaque 0 ∷ []))
+      perform (increments l f) =
+          onward (replaced f opaque (st .stack)) (written (st .locals) (localAt code (st .pc) l) (opaque 0 ∷ []))
       perform (throws os) = st
 
   -- opaque: each instruction's own results, by its index and their number. A block runs each index once.

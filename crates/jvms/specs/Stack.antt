@@ -4,11 +4,13 @@
 -- `count1, [count2, ...]` is `counts`. What an invoked method returns is its `result` here: JVMS draws it at the return
 -- instruction, which pushes it.
 -- Assumes nothing.
-use Prim.Native.Nat.{ℕ, zero, suc, _+_}
+use Prim.Native.Nat.{ℕ, zero, suc, _+_, _-_}
 use mathlib.Core.Bool.{Bool}
 use mathlib.Core.List.{List, [], _∷_}
-use lib.Dec.{eqb}
+use lib.Dec.{eqb, ltb}
+use lib.ListN.{length}
 use Rattle.basics.specs.Bytes.{byteAt}
+use Rattle.basics.specs.Choice.{pick}
 
 pub data Name : Type 0 where
   value value1 value2 value3 value4 constant null objectref arrayref index count counts size result args : Name
@@ -28,9 +30,9 @@ infix 3 _⇒_
 abbrev pub _⇒_ : List Operand → List Operand → Form
 operands ⇒ outcome = record { before = operands; after = outcome }
 
--- which local: by the byte behind the opcode, or by the number in the opcode's name
+-- which local: by the byte behind the opcode; behind `wide` and an opcode, by the two bytes there; or by the number in the opcode's name
 pub data Local : Type 0 where
-  indexed : Local
+  indexed far : Local
   numbered : ℕ → Local
 
 pub data Entry : Type 0 where
@@ -42,8 +44,8 @@ pub data Entry : Type 0 where
   loads : Local → Form → Entry
   -- the operand goes into the local, and the next one for two slots
   stores : Local → Form → Entry
-  -- the local behind the opcode is written
-  increments : Form → Entry
+  -- the local is written
+  increments : Local → Form → Entry
   -- control leaves the code
   throws : List Operand → Entry
 
@@ -260,7 +262,7 @@ entries =
     does (long value1 ∷ long value2 ∷ [] ⇒ long result ∷ []) ∷  -- 129 lor
     does (int value1 ∷ int value2 ∷ [] ⇒ int result ∷ []) ∷  -- 130 ixor
     does (long value1 ∷ long value2 ∷ [] ⇒ long result ∷ []) ∷  -- 131 lxor
-    increments ([] ⇒ []) ∷  -- 132 iinc
+    increments indexed ([] ⇒ []) ∷  -- 132 iinc
     does (int value ∷ [] ⇒ long result ∷ []) ∷  -- 133 i2l
     does (int value ∷ [] ⇒ float result ∷ []) ∷  -- 134 i2f
     does (int value ∷ [] ⇒ double result ∷ []) ∷  -- 135 i2d
@@ -337,18 +339,36 @@ entryIn [] op = unlisted
 entryIn (e ∷ es) zero = e
 entryIn (e ∷ es) (suc op) = entryIn es op
 
--- what JVMS says of an opcode
-unfoldable pub entryOf : ℕ → Entry
-unfolding entries
-entryOf op = entryIn entries op
+-- `wide` "modifies the behavior of another instruction", of one that names a local by a byte: "indexbyte1 and indexbyte2 follow the
+-- modified opcode and are assembled into a 16-bit unsigned index to a local variable". (JVMS lists `ret` too, which has no entry here.)
+abbrev pub widened : Entry → Entry
+widened unlisted = unlisted
+widened (does f) = unlisted
+widened (eitherOf f others) = unlisted
+widened (loads indexed f) = loads far f
+widened (loads far f) = unlisted
+widened (loads (numbered n) f) = unlisted
+widened (stores indexed f) = stores far f
+widened (stores far f) = unlisted
+widened (stores (numbered n) f) = unlisted
+widened (increments indexed f) = increments far f
+widened (increments far f) = unlisted
+widened (increments (numbered n) f) = unlisted
+widened (throws os) = unlisted
 
--- The instruction at an index of a code, as a key of this table and of every other table by opcode; how many keys there are; and
--- its entry.
+-- The instruction at an index of a code, as a key of this table and of every other table by opcode: its opcode; after `wide` 256 and
+-- the opcode that is widened, and `wide` alone where nothing follows. And how many keys there are.
 abbrev pub keyAt : List ℕ → ℕ → ℕ
-keyAt code pc = byteAt code pc
+keyAt code pc =
+    pick (eqb (byteAt code pc) 196) (pick (ltb (pc + 1) (length code)) (256 + byteAt code (pc + 1)) 196) (byteAt code pc)
 
 abbrev pub keyCount : ℕ
-keyCount = 256
+keyCount = 512
+
+-- what JVMS says of a key
+unfoldable pub entryOf : ℕ → Entry
+unfolding entries
+entryOf key = pick (ltb key 256) (entryIn entries key) (widened (entryIn entries (key - 256)))
 
 abbrev pub entryAt : List ℕ → ℕ → Entry
 entryAt code pc = entryOf (keyAt code pc)
@@ -360,5 +380,5 @@ operandsOf (does f) = f .before
 operandsOf (eitherOf f others) = f .before
 operandsOf (loads l f) = f .before
 operandsOf (stores l f) = f .before
-operandsOf (increments f) = f .before
+operandsOf (increments l f) = f .before
 operandsOf (throws os) = os

@@ -2,17 +2,18 @@
 -- Assumes nothing.
 use mathlib.Core.Path.{_≡_, refl, _∙_, sym, ap}
 use Rattle.basics.specs.Choice.{pick}
-use Rattle.effects.specs.Rows.{Row, unmodelled, opaque, aload, aloadOf, carries, keeps, gets, calls, puts, makes}
+use Rattle.effects.specs.Rows.{Row, unmodelled, opaque, aload, aloadFar, aloadOf, carries, keeps, gets, calls, puts, makes}
 use Rattle.row.specs.Code.{rowFrom}
 use Rattle.row.specs.Laws.{RowFromInjective}
 use Rattle.row.specs.declared.Row.{Row as CodeRow}
-use Rattle.row.specs.declared.Row.the-variants.{Unmodelled, Opaque, Aload, AloadOf, Copies, Swap, Keeps, Gets, Calls, Puts, Makes}
+use Rattle.row.specs.declared.Row.the-variants.{Unmodelled, Opaque, Aload, AloadFar, AloadOf, Copies, Swap, Keeps, Gets, Calls, Puts, Makes}
 use Rattle.row.proofs.Places.{isSwap, countOf, underOf, copies-told}
 
 abbrev codeOf : Row → CodeRow
 codeOf unmodelled = Unmodelled
 codeOf (opaque takes gives) = Opaque takes gives
 codeOf aload = Aload
+codeOf aloadFar = AloadFar
 codeOf (aloadOf local) = AloadOf local
 codeOf (carries takes places) = pick (isSwap takes places) Swap (Copies (countOf takes places) (underOf takes places))
 codeOf keeps = Keeps
@@ -25,6 +26,7 @@ back : (row : CodeRow) → codeOf (rowFrom row) ≡ row
 back Unmodelled = refl
 back (Opaque takes gives) = refl
 back Aload = refl
+back AloadFar = refl
 back (AloadOf local) = refl
 back (Copies count under) = copies-told Swap Copies count under
 back Swap = refl

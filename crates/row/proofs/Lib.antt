@@ -1,3 +1,4 @@
+pub mod Few
 pub mod Full
 pub mod Laws
 pub mod OfOpcode

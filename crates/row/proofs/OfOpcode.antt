@@ -9,7 +9,7 @@ use lib.Dec.{T, eqb}
 use lib.ListN.{getD, drop}
 use types.Run.{OneOf}
 use Rattle.basics.specs.Choice.{pick, both, sameList}
-use Rattle.effects.specs.Rows.{Row, unmodelled, opaque, aload, aloadOf, carries, keeps, gets, calls, puts, makes}
+use Rattle.effects.specs.Rows.{Row, unmodelled, opaque, aload, aloadFar, aloadOf, carries, keeps, gets, calls, puts, makes}
 use Rattle.basics.proofs.Every.{both-first, both-second, every, every-from}
 use Rattle.basics.proofs.Keys.{Unkeyed, orKey, every-unkeyed}
 use Rattle.basics.proofs.Same.{are-same}
@@ -25,6 +25,7 @@ number (gets takes) = 6 ∷ takes ∷ []
 number (calls takes) = 7 ∷ takes ∷ []
 number (puts takes) = 8 ∷ takes ∷ []
 number makes = 9 ∷ []
+number aloadFar = 10 ∷ []
 
 abbrev numbered : List ℕ → Row
 numbered [] = unmodelled
@@ -38,7 +39,8 @@ numbered (k ∷ l) =
     (pick (eqb k 7) (calls (getD l 0 0))
     (pick (eqb k 8) (puts (getD l 0 0))
     (pick (eqb k 9) makes
-    unmodelled))))))))
+    (pick (eqb k 10) aloadFar
+    unmodelled)))))))))
 
 back : (row : Row) → numbered (number row) ≡ row
 back unmodelled = refl
@@ -51,6 +53,7 @@ back (gets takes) = refl
 back (calls takes) = refl
 back (puts takes) = refl
 back makes = refl
+back aloadFar = refl
 
 -- rows: a table
 module _ (rows : ℕ → Row) where

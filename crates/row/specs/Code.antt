@@ -1,10 +1,10 @@
 -- What the code's rows stand for: the rows of the two models (crates/effects/specs/Rows.antt).
 -- Assumes nothing.
-use Prim.Native.Nat.{ℕ, zero, suc, _+_}
+use Prim.Native.Nat.{ℕ, zero, suc, _+_, _≤_}
 use mathlib.Core.List.{List, [], _∷_, _++_}
-use Rattle.effects.specs.Rows.{Row, unmodelled, opaque, aload, aloadOf, carries, keeps, gets, calls, puts, makes}
+use Rattle.effects.specs.Rows.{Row, unmodelled, opaque, aload, aloadFar, aloadOf, carries, keeps, gets, calls, puts, makes}
 use Rattle.row.specs.declared.Row.{Row as CodeRow}
-use Rattle.row.specs.declared.Row.the-variants.{Unmodelled, Opaque, Aload, AloadOf, Copies, Swap, Keeps, Gets, Calls, Puts, Makes}
+use Rattle.row.specs.declared.Row.the-variants.{Unmodelled, Opaque, Aload, AloadFar, AloadOf, Copies, Swap, Keeps, Gets, Calls, Puts, Makes}
 
 -- the places from one down to the topmost, 1
 abbrev pub downFrom : ℕ → List ℕ
@@ -22,6 +22,7 @@ abbrev pub rowFrom : CodeRow → Row
 rowFrom Unmodelled = unmodelled
 rowFrom (Opaque takes gives) = opaque takes gives
 rowFrom Aload = aload
+rowFrom AloadFar = aloadFar
 rowFrom (AloadOf local) = aloadOf local
 rowFrom (Copies count under) = carries (count + under) (copyPlaces count under)
 rowFrom Swap = carries 2 swapPlaces
@@ -30,3 +31,18 @@ rowFrom (Gets takes) = gets takes
 rowFrom (Calls takes) = calls takes
 rowFrom (Puts takes) = puts takes
 rowFrom Makes = makes
+
+-- besides the slots of the member that is cited, a row takes one at most
+abbrev pub Few : CodeRow → Type 0
+Few Unmodelled = Unit {0}
+Few (Opaque takes gives) = Unit {0}
+Few Aload = Unit {0}
+Few AloadFar = Unit {0}
+Few (AloadOf local) = Unit {0}
+Few (Copies count under) = Unit {0}
+Few Swap = Unit {0}
+Few Keeps = Unit {0}
+Few (Gets takes) = Unit {0}
+Few (Calls takes) = takes ≤ 1
+Few (Puts takes) = takes ≤ 1
+Few Makes = Unit {0}

@@ -1,18 +1,21 @@
-// What an opcode does to the slots, in either model (document 01, "The walk"; document 02, request 1).
+// What an instruction does to the slots by its key, in either model (document 01, "The walk"; document 02, requests 1 and 7).
 use effects::Model;
+use key::Key;
 use opcode::Opcode;
 ghost use mathlib.Core.Path.{_≡_};
-ghost use Prim.Native.Nat.{_<_, _≤_};
-ghost use Rattle.effects.specs.Rows.{rowOf, addedRow, rowsOf};
-ghost use Rattle.row.specs.Code.{rowFrom};
+ghost use Prim.Native.Nat.{_+_, _<_, _≤_};
+ghost use Rattle.effects.specs.Rows.{rowOf, addedRow, widenedRow, rowsOf};
+ghost use Rattle.key.specs.Key.{keyFrom};
+ghost use Rattle.row.specs.Code.{rowFrom, Few};
 
-// What an opcode does to the slots.
+// What an instruction does to the slots.
 pub enum Row {
     Unmodelled,
     // Takes slots and pushes opaque ones.
     Opaque { takes: usize, gives: usize },
-    // Pushes the load of a local: the next byte names it, or the opcode does.
+    // Pushes the load of a local: the next byte names it, the two bytes behind a widened opcode do, or the opcode does.
     Aload,
+    AloadFar,
     AloadOf { local: usize },
     // dup and its five further forms: the topmost slots once more, below so many under them.
     Copies { count: usize, under: usize },
@@ -171,7 +174,7 @@ fn added_row(op: u8) -> Row
 }
 
 // The row of an opcode in a model. Only one that document 01 does not model is looked for among the added ones.
-pub fn row_in(model: Model, op: u8) -> Row
+fn plain_row(model: Model, op: u8) -> Row
     ensures { λ r. ⌜ rowFrom r ≡ rowsOf model op ⌝ }
 {
     let row = row_of(op);
@@ -181,4 +184,40 @@ pub fn row_in(model: Model, op: u8) -> Row
         }
     }
     row
+}
+
+// The row that the full model has for an opcode behind `wide`.
+fn widened_row(op: u8) -> Row
+    ensures { λ r. ⌜ rowFrom r ≡ widenedRow op ⌝ }
+{
+    match op {
+        Opcode::ILOAD | Opcode::FLOAD => Row::Opaque { takes: 0, gives: 1 },
+        Opcode::LLOAD | Opcode::DLOAD => Row::Opaque { takes: 0, gives: 2 },
+        Opcode::ALOAD => Row::AloadFar,
+        Opcode::ISTORE | Opcode::FSTORE | Opcode::ASTORE => Row::Opaque { takes: 1, gives: 0 },
+        Opcode::LSTORE | Opcode::DSTORE => Row::Opaque { takes: 2, gives: 0 },
+        Opcode::IINC => Row::Opaque { takes: 0, gives: 0 },
+        _ => Row::Unmodelled,
+    }
+}
+
+// The row of an opcode behind `wide` in a model.
+fn wide_row(model: Model, op: u8) -> Row
+    ensures { λ r. ⌜ rowFrom r ≡ rowsOf model (256 + op) ⌝ }
+{
+    if let Model::Document = model {
+        return Row::Unmodelled;
+    }
+    widened_row(op)
+}
+
+// The row of an instruction in a model.
+pub fn row_in(model: Model, key: Key) -> Row
+    ensures row { λ r. ⌜ rowFrom r ≡ rowsOf model (keyFrom key) ⌝ }
+    ensures few { λ r. ⌜ Few r ⌝ }
+{
+    match key {
+        Key::Plain(op) => plain_row(model, op),
+        Key::Wide(op) => wide_row(model, op),
+    }
 }

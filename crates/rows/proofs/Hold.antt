@@ -27,14 +27,14 @@ use Rattle.judging.specs.Reading.{typeReading, returnAt, parametersAt, methodRe
 use Rattle.number.specs.Number.{numberFrom, numberAt}
 use Rattle.items.specs.Text.{textAt, textPart, afterText, classOf, nameOf, descriptorOf}
 use Rattle.tables.specs.Layout.{membersThen, recordsThen, runBy}
-use Rattle.tables.specs.LocalRecord.{recordsIn}
+use Rattle.tables.specs.LocalRecord.{recordAt, recordsIn}
 use Rattle.tables.specs.Member.{memberAt}
 use Rattle.lookup.specs.Lookup.{memberFound}
 use Rattle.casefile.specs.Parts.{partsOf}
 use Rattle.casefile.specs.Whole.{tablesAt, placesIn, caseOf}
 use Rattle.effects.specs.Depth.{ruleOf, depthOf}
 use Rattle.effects.specs.Lookup.{lookupIn}
-use Rattle.effects.specs.Rows.{rowOf, addedRow, fullRowOf}
+use Rattle.effects.specs.Rows.{rowOf, addedRow, widenedRow, fullRowOf}
 use Rattle.walk.specs.Room.{completedFrom, completed, blockWalkIn}
 use Rattle.walk.specs.Walk.{step, walkFrom, walk}
 use Rattle.fault.specs.Decoding.{actionOf, constructs, decoded}
@@ -58,11 +58,12 @@ unfolding rows
     numbered numberOf answer typeReading methodReading parametersAt returnAt typeAt typeIn strictBrackets element isBase unnamedType
     reported reportIn reportedBy caseOf placesIn tablesAt textAt numberAt numberFrom runBy membersThen recordsThen partsOf
     saidIn decoded depthOf ruleOf actionOf constructs lookupIn memberFound memberAt textPart afterText classOf nameOf
-    descriptorOf traced blockWalkIn completed completedFrom walk walkFrom step rowOf addedRow fullRowOf fieldSlots fixedLength slotFrom
-    messageOf messageText actionText invokeText methodText causeText localName recordsIn firstMatch signatureParameter
+    descriptorOf traced blockWalkIn completed completedFrom walk walkFrom step rowOf addedRow widenedRow fullRowOf fieldSlots fixedLength slotFrom
+    messageOf messageText actionText invokeText methodText causeText localName recordAt recordsIn firstMatch signatureParameter
     parameterAt startingAt numberedName decimal digits isInstance over
 rows-hold =
     refl & refl & refl & refl & refl & refl & refl & refl & refl & refl & refl & refl
+    & refl & refl & refl & refl & refl & refl & refl & refl & refl & refl & refl & refl
     & refl & refl & refl & refl & refl & refl & refl & refl & refl & refl & refl & refl
     & refl & refl & refl & refl & refl & refl & refl & refl & refl & refl & refl & refl
     & refl & refl & refl & refl & refl & refl & refl & refl & refl & refl & refl & refl

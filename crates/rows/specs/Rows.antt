@@ -74,6 +74,34 @@ making dimensions = static 8 (0x2a ∷ 0x04 ∷ 0x04 ∷ 0xc5 ∷ 0x00 ∷ 0x01 
 abbrev pub adding : List ℕ
 adding = static 6 (0x03 ∷ 0x04 ∷ 0x60 ∷ 0x2a ∷ 0x2b ∷ 0x2c ∷ 0xbe ∷ [])
 
+-- ---- the cases of document 02, request 7: each faults at an arraylength
+
+-- wide aload of the local of two bytes
+abbrev pub farLoad : ℕ → ℕ → List ℕ
+farLoad high low = 0xc4 ∷ 0x19 ∷ high ∷ low ∷ 0xbe ∷ []
+
+-- wide aload 300, with two records of local 300: `late` from 1 on, for 9 bytes, and `axis` from 0, for one
+abbrev pub namedFar : List ℕ
+namedFar =
+    8 ∷ 4 ∷ 5 ∷ (farLoad 1 44
+    ++ (0 ∷ 0 ∷ 2 ∷ 1 ∷ 9 ∷ 172 ∷ 2 ∷ 4 ∷ (ascii "late" ++ (0 ∷ 1 ∷ 172 ∷ 2 ∷ 4 ∷ ascii "axis"))))
+
+-- wide ret 1, aload_0
+abbrev pub returningFar : List ℕ
+returningFar = static 5 (0xc4 ∷ 0xa9 ∷ 0x00 ∷ 0x01 ∷ 0x2a ∷ 0xbe ∷ [])
+
+-- wide iinc 300 by 5, aload_0
+abbrev pub countingFar : List ℕ
+countingFar = static 7 (0xc4 ∷ 0x84 ∷ 0x01 ∷ 0x2c ∷ 0x00 ∷ 0x05 ∷ 0x2a ∷ 0xbe ∷ [])
+
+-- aload_0, lconst_1, wide lstore 300
+abbrev pub storingFar : List ℕ
+storingFar = static 6 (0x2a ∷ 0x0a ∷ 0xc4 ∷ 0x37 ∷ 0x01 ∷ 0x2c ∷ 0xbe ∷ [])
+
+-- goto 4, which lies inside the bipush behind it: from there on a `wide` and an opcode, whose operands are cut
+abbrev pub cutFar : ℕ → List ℕ
+cutFar op = static 6 (0xa7 ∷ 0x00 ∷ 0x04 ∷ 0x10 ∷ 0xc4 ∷ op ∷ 0xbe ∷ [])
+
 -- "Static method, flags 8, fault 1, code 2a b6 00 01 57 b1, signature `m:(Ljava/lang/String;)V`, member 1 method
 -- `java/lang/String` `length` `()I`, no records: 65 bytes"
 abbrev pub example : List ℕ
@@ -202,6 +230,23 @@ rows =
     -- "3 may now come where the old model gave up earlier", here of two cells
     reports adding 2 60 (0 ∷ 28 ∷ 1 ∷ 7 ∷ 2 ∷ []) ∷
     reportsIn fullManner adding 2 60 (3 ∷ 4 ∷ []) ∷
+    -- document 02, request 7: document 01's model has no `wide`, and the full one has its loads, to local 65,535
+    reports (static 4 (farLoad 1 44)) 8 60 (0 ∷ 28 ∷ 1 ∷ 2 ∷ 0 ∷ []) ∷
+    reportsIn fullManner (static 4 (farLoad 1 44)) 8 60 (0 ∷ 57 ∷ 2 ∷ 2 ∷ 1 ∷ []) ∷
+    writesIn fullManner (static 4 (farLoad 1 44)) 8 (ascii "Cannot read the array length because \"<local300>\" is null") ∷
+    writesIn fullManner (static 4 (farLoad 255 255)) 8 (ascii "Cannot read the array length because \"<local65535>\" is null") ∷
+    -- "a `wide` load's index is that of `wide`": the record that covers it names the local
+    reportsIn fullManner namedFar 8 60 (0 ∷ 51 ∷ 2 ∷ 2 ∷ 1 ∷ []) ∷
+    writesIn fullManner namedFar 8 (ascii "Cannot read the array length because \"axis\" is null") ∷
+    -- "any other opcode after it fails", also `ret`
+    reportsIn fullManner returningFar 8 60 (0 ∷ 28 ∷ 1 ∷ 3 ∷ 0 ∷ []) ∷
+    -- wide iinc has six bytes, wide lstore takes two slots
+    reportsIn fullManner countingFar 8 60 (0 ∷ 55 ∷ 2 ∷ 3 ∷ 2 ∷ []) ∷
+    reportsIn fullManner storingFar 8 60 (0 ∷ 55 ∷ 2 ∷ 4 ∷ 3 ∷ []) ∷
+    -- of those behind `wide`, only `aload`'s local is read: `wide iload` is completed and passes the fault
+    reportsIn fullManner (cutFar 0x15) 8 60 (0 ∷ 28 ∷ 1 ∷ 3 ∷ 1 ∷ []) ∷
+    reportsIn fullManner (cutFar 0x19) 8 60 (0 ∷ 28 ∷ 1 ∷ 3 ∷ 0 ∷ []) ∷
+    reports (cutFar 0x15) 8 60 (0 ∷ 28 ∷ 1 ∷ 3 ∷ 0 ∷ []) ∷
     -- "strict `()` is 1, `())` is 12, 255 `[` then I passes, 256 is 2."
     methodReads (40 ∷ 41 ∷ []) 4 (1 ∷ []) ∷
     methodReads (40 ∷ 41 ∷ 41 ∷ []) 4 (12 ∷ []) ∷

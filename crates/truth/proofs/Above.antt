@@ -6,13 +6,14 @@ use native.Mathlib.Omega.{arith}
 use mathlib.Core.Path.{_≡_, refl, _∙_, ap, subst}
 use mathlib.Core.List.{List, [], _∷_, _++_, append-assoc}
 use lib.ListN.{length, take, replicate}
-use Rattle.basics.specs.Bytes.{byteAt}
+use Rattle.basics.specs.Bytes.{byteAt, u16At}
 use Rattle.basics.specs.Each.{none, one}
+use Rattle.basics.proofs.Bytes.{u16-below}
 use Rattle.basics.proofs.Each.{each-length, each-take, each-append}
 use Rattle.jvms.specs.Machine.{State, citedAt, localAt, below, topmost, run}
-use Rattle.jvms.specs.Stack.{Local, indexed, numbered, Entry, unlisted, does, eitherOf, loads, stores, increments, throws, Cited, keyAt, entryAt}
+use Rattle.jvms.specs.Stack.{Local, indexed, far, numbered, Entry, unlisted, does, eitherOf, loads, stores, increments, throws, Cited, keyAt, entryAt}
 use Rattle.effects.specs.Agreement.{takenBy, Carried, Pushed, localOf, Details}
-use Rattle.effects.specs.Rows.{Row, unmodelled, opaque, aload, aloadOf, carries, keeps, gets, calls, puts, makes}
+use Rattle.effects.specs.Rows.{Row, unmodelled, opaque, aload, aloadFar, aloadOf, carries, keeps, gets, calls, puts, makes}
 use Rattle.walk.specs.Walk.{Push}
 use Rattle.truth.specs.Relation.{Held, Setting, ownBy, own, Speaks, Given}
 use Rattle.truth.proofs.Carried.{held-carried}
@@ -71,14 +72,14 @@ module _ {A Val : Type 0} (s : Setting A Val) where
         let same : m ≡ l = cc in
         rw same (ap (λ (n : ℕ). st .locals n) (add-zero (localAt (s .code) (st .pc) l)))
     loaded-first (stores m f) l e = no-local e
-    loaded-first (increments f) l e = no-local e
+    loaded-first (increments m f) l e = no-local e
     loaded-first (throws os) l e = no-local e
 
     held-blanks : (n : ℕ) (put : List Val) → put ≡ run n 0 (own s st) → Held (s .Says) (replicate n blank) put
     held-blanks n put e = rw e (held-run n 0 blank (own s st) (speaks .made))
 
     held-mark :
-        (local : ℕ) (l : Local) (put : List Val) → local < 256 → localAt (s .code) (st .pc) l ≡ local →
+        (local : ℕ) (l : Local) (put : List Val) → local < 65536 → localAt (s .code) (st .pc) l ≡ local →
         localOf (entryAt (s .code) (st .pc)) ≡ l ∷ [] → put ≡ run 1 0 (own s st) →
         Held (s .Says) (s .marks .mark (st .pc) local ∷ []) put
     held-mark local l put small there e q =
@@ -93,9 +94,11 @@ module _ {A Val : Type 0} (s : Setting A Val) where
     held-pushed list unmodelled put a details enough e = rw e none
     held-pushed list (opaque taken n) put a details enough e = held-blanks n put e
     held-pushed list aload put a details enough e =
-        held-mark (byteAt (s .code) (st .pc + 1)) indexed put (given .bytes (st .pc + 1)) refl details e
+        held-mark (byteAt (s .code) (st .pc + 1)) indexed put (omega (arith, given .bytes (st .pc + 1))) refl details e
+    held-pushed list aloadFar put a details enough e =
+        held-mark (u16At (s .code) (st .pc + 2)) far put (u16-below (s .code) (given .bytes) (st .pc + 2)) refl details e
     held-pushed list (aloadOf local) put a details enough e =
-        held-mark local (numbered local) put (details .1) refl (details .0) e
+        held-mark local (numbered local) put (omega (arith, details .1)) refl (details .0) e
     held-pushed list (carries taken places) put a details enough e =
         held-carried blank (s .opaque 0 0) (s .entering) (a .above) list (a .held) taken enough places details put
         (subst (λ (l : List Val). Carried places (topmost taken l) put) (a .untouched) e)

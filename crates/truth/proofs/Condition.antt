@@ -66,7 +66,7 @@ module _ {rule : LengthRule} {handlers : List ℕ} (f : Findings) (pool : Pool) 
           opaque = opaque;
           entering = entering;
           locals = locals;
-          Says = λ cell v. (b n : ℕ) → n < 256 → cell ≡ cellOf b n → HeldWhen states (f .count) b n v;
+          Says = λ cell v. (b n : ℕ) → n < 65536 → cell ≡ cellOf b n → HeldWhen states (f .count) b n v;
         }
 
     given : Given setting

@@ -12,7 +12,7 @@ use Rattle.basics.proofs.Bytes.{all-below}
 use Rattle.basics.proofs.Every.{every, every-at}
 use Rattle.jvms.specs.Descriptor.{render, renderReturn, renderAll, renderMethod, ClassName, WellFormed, WellFormedMethod}
 use Rattle.jvms.specs.Format.{formatOf}
-use Rattle.bytecode.specs.Length.{bytesOf, within, documentLength, lengthOf}
+use Rattle.bytecode.specs.Length.{wideBytes, bytesOf, within, documentLength, lengthOf}
 use Rattle.fixed.specs.Fixed.{fixedLength}
 use Rattle.greatest.specs.Greatest.{upTo, greatest}
 use Rattle.leader.specs.Scan.{scanFrom, instructions, scanCount, leadersOf, answered, blockLeader}
@@ -29,13 +29,13 @@ use Rattle.tables.specs.Member.{memberAt}
 use Rattle.lookup.specs.Lookup.{memberFound}
 use Rattle.effects.specs.Depth.{ruleOf, depthOf, at}
 use Rattle.effects.specs.Lookup.{lookupIn, known}
-use Rattle.effects.specs.Rows.{rowOf, addedRow, fullRowOf}
+use Rattle.effects.specs.Rows.{rowOf, addedRow, widenedRow, fullRowOf}
 use Rattle.effects.specs.declared.Model.the-variants.{Full}
 use Rattle.effects.proofs.Rows.{whereAsked, asked}
 use Rattle.walk.specs.Room.{completedFrom, completed, fits, blockWalk, blockWalkIn, answerOf, cellsOf}
 use Rattle.walk.specs.Walk.{done, step, walkFrom, walk}
 use Rattle.truth.specs.Condition.{Described}
-use Rattle.truth.specs.Example.{members, pool, worked, fullWorked, PremisesMet, NamedRightly, BeyondDocument}
+use Rattle.truth.specs.Example.{members, pool, worked, fullWorked, farWorked, PremisesMet, NamedRightly, BeyondDocument, BeyondNarrow}
 use Rattle.truth.proofs.Cause.{cause-true}
 
 -- ---- the members
@@ -105,7 +105,7 @@ leads : blockLeader lengthOf [] (worked .code) 14 ≡ Leader 0 12
 unfolding blockLeader instructions scanFrom scanCount leadersOf leadersAt branchOf answered greatest upTo lengthOf documentLength within bytesOf formatOf
 leads = refl
 
-walks : blockWalk (worked .code) members 2 0 14 4 ≡ fits (done (1 ∷ 3330 ∷ []) 10)
+walks : blockWalk (worked .code) members 2 0 14 4 ≡ fits (done (1 ∷ 851970 ∷ []) 10)
 unfolding blockWalkIn completed completedFrom walk walkFrom step rowOf fixedLength formatOf u16At lookupIn memberFound memberAt numberAt numberFrom runBy textAt textPart afterText descriptorOf slotsOf judged parameters closing slotsBehind returnSlots fieldSlots firstIn firstFrom brackets typeBehind fieldTypeAt typeSlots typesFrom typesAt typesOf
 walks = refl
 
@@ -127,7 +127,7 @@ deep : depthOf (lookupIn members 2) (worked .code) 14 ≡ at 1
 unfolding depthOf ruleOf u16At lookupIn memberFound memberAt numberAt numberFrom runBy textAt textPart afterText descriptorOf slotsOf judged parameters firstIn firstFrom brackets typeBehind fieldTypeAt typeSlots typesFrom typesAt typesOf
 deep = refl
 
-pub named-rightly : NamedRightly worked
+pub named-rightly : NamedRightly worked 0
 named-rightly = cause-true worked pool premises-met 1 0 0 deep (lit< tt) (lit< tt) refl
 
 -- ---- the full model
@@ -137,7 +137,7 @@ unfolding blockLeader instructions scanFrom scanCount leadersOf leadersAt branch
 full-leads = refl
 
 full-walks : blockWalkIn Full (fullWorked .code) members 2 0 11 6 ≡ fits (done (1 ∷ 0 ∷ 0 ∷ []) 9)
-unfolding blockWalkIn completed completedFrom walk walkFrom step rowOf addedRow fullRowOf fixedLength formatOf u16At lookupIn memberFound memberAt numberAt numberFrom runBy textAt textPart afterText descriptorOf fieldSlots brackets typeBehind fieldTypeAt typeSlots
+unfolding blockWalkIn completed completedFrom walk walkFrom step rowOf addedRow widenedRow fullRowOf fixedLength formatOf u16At lookupIn memberFound memberAt numberAt numberFrom runBy textAt textPart afterText descriptorOf fieldSlots brackets typeBehind fieldTypeAt typeSlots
 full-walks = refl
 
 pub full-premises-met : PremisesMet fullWorked
@@ -158,9 +158,44 @@ full-deep : depthOf (lookupIn members 2) (fullWorked .code) 11 ≡ at 2
 unfolding depthOf ruleOf u16At lookupIn memberFound memberAt numberAt numberFrom runBy textAt textPart afterText descriptorOf fieldSlots brackets typeBehind fieldTypeAt typeSlots
 full-deep = refl
 
-pub full-named-rightly : NamedRightly fullWorked
+pub full-named-rightly : NamedRightly fullWorked 0
 full-named-rightly = cause-true fullWorked pool full-premises-met 2 0 0 full-deep (lit< tt) (lit< tt) refl
 
 pub beyond-document : BeyondDocument
 unfolding blockWalkIn completed completedFrom walk walkFrom step rowOf fixedLength formatOf u16At
 beyond-document = refl
+
+-- ---- the full model, above local 255
+
+far-leads : blockLeader lengthOf [] (farWorked .code) 15 ≡ Leader 0 6
+unfolding blockLeader instructions scanFrom scanCount leadersOf leadersAt branchOf answered greatest upTo lengthOf documentLength within bytesOf wideBytes formatOf
+far-leads = refl
+
+far-walks : blockWalkIn Full (farWorked .code) members 2 0 15 2 ≡ fits (done (301 ∷ []) 4)
+unfolding blockWalkIn completed completedFrom walk walkFrom step rowOf addedRow widenedRow fullRowOf fixedLength formatOf u16At
+far-walks = refl
+
+pub far-premises-met : PremisesMet farWorked
+unfolding u16At
+far-premises-met =
+    record {
+      bytes = all-below 256 (farWorked .code) tt tt;
+      scan = 6;
+      measured = far-leads;
+      inside = lit< tt;
+      room = 2;
+      walked = ap answerOf far-walks;
+      left = sym (ap (cellsOf 2) far-walks);
+      described = λ pc here below. described (farWorked .code) 15 tt tt pc below;
+    }
+
+far-deep : depthOf (lookupIn members 2) (farWorked .code) 15 ≡ at 0
+unfolding depthOf ruleOf
+far-deep = refl
+
+pub far-named-rightly : NamedRightly farWorked 300
+far-named-rightly = cause-true farWorked pool far-premises-met 0 0 300 far-deep (lit< tt) (lit< tt) refl
+
+pub beyond-narrow : BeyondNarrow
+unfolding blockWalkIn completed completedFrom walk walkFrom step rowOf fixedLength formatOf
+beyond-narrow = refl

@@ -1,18 +1,19 @@
--- Condition 3 has force: a walk's list with one opaque slot marked as a load, with one load's local changed, or with a copy in a
--- wrong place, is refuted; and a list with a load marked opaque is not the walk's.
+-- Condition 3 has force: a walk's list with one opaque slot marked as a load, with one load's local or index changed, or with a copy in
+-- a wrong place, is refuted; and a list with a load marked opaque is not the walk's.
 -- Assumes nothing.
 use Prim.Native.Nat.{ℕ, zero, suc, _+_, _<_}
 use native.Mathlib.Omega.{arith}
-use mathlib.Core.Path.{_≡_, refl, ap}
+use mathlib.Core.Path.{_≡_, refl, _∙_, sym, ap}
 use mathlib.Core.List.{List, [], _∷_}
 use lib.Dec.{lit<}
 use lib.ListN.{length, getD}
+use Rattle.basics.specs.Bytes.{u16At}
 use Rattle.jvms.specs.Extent.{extentAt}
 use Rattle.jvms.specs.Format.{formatOf}
 use Rattle.jvms.specs.Machine.{Pool, State, ran}
 use Rattle.jvms.specs.Stack.{entryOf}
 use Rattle.fixed.specs.Fixed.{fixedLength}
-use Rattle.effects.specs.Rows.{rowOf, addedRow, fullRowOf}
+use Rattle.effects.specs.Rows.{rowOf, addedRow, widenedRow, fullRowOf}
 use Rattle.effects.specs.declared.Model.the-variants.{Document, Full}
 use Rattle.walk.specs.Room.{completedFrom, completed, blockWalk, blockWalkIn, cellsOf}
 use Rattle.cell.specs.Cell.{cellOf}
@@ -24,15 +25,31 @@ use Rattle.truth.specs.Translation.{since, TrueTranslation}
 abbrev numbers : Pool → List ℕ → ℕ → State ℕ
 numbers pool code = since pool code (λ index k. 1) 0 [] (λ n. n)
 
--- so where the instructions leave 1 in a place, and local 0 is never written, that is not what local 0 held at any of them
+-- so where the instructions leave another number in a place than that of a local, which is never written, that is not what this local
+-- held at any of them
 module _ (code : List ℕ) (pool : Pool) (fault count : ℕ) (wrong : List ℕ) where
+  untrue-of :
+      (place b n v : ℕ) → n < 65536 → (v ≡ n → ⊥) → ((j : ℕ) → j < count → numbers pool code j .locals n ≡ n) →
+      getD (numbers pool code count .stack) (0 + place) 0 ≡ v → place < length wrong → getD wrong place 0 ≡ cellOf b n →
+      TrueTranslation code pool 0 fault wrong count → ⊥
+  untrue-of place b n v small other kept leaves inside marked t =
+      let loaded = t ℕ (λ index k. 1) [] (λ n. n) .holds place b n 0 inside small marked in
+      other (sym leaves ∙ loaded .held ∙ kept (loaded .turn) (loaded .ran))
+
+  -- 1, and local 0
   refuted :
       (place b : ℕ) → ((j : ℕ) → j < count → numbers pool code j .locals 0 ≡ 0) →
       getD (numbers pool code count .stack) (0 + place) 0 ≡ 1 → place < length wrong → getD wrong place 0 ≡ cellOf b 0 →
       TrueTranslation code pool 0 fault wrong count → ⊥
-  refuted place b kept leaves inside marked t =
-      let loaded = t ℕ (λ index k. 1) [] (λ n. n) .holds place b 0 0 inside (lit< tt) marked in
-      omega (arith, leaves, loaded .held, kept (loaded .turn) (loaded .ran))
+  refuted place b = untrue-of place b 0 1 (lit< tt) (λ e. omega (arith, e))
+
+  -- and where no instruction stands at an index, nothing is what a local held when that index ran
+  unmoved :
+      (place b n : ℕ) → n < 65536 → ((j : ℕ) → j < count → numbers pool code j .pc ≡ b → ⊥) → place < length wrong →
+      getD wrong place 0 ≡ cellOf b n → TrueTranslation code pool 0 fault wrong count → ⊥
+  unmoved place b n small elsewhere inside marked t =
+      let loaded = t ℕ (λ index k. 1) [] (λ n. n) .holds place b n 0 inside small marked in
+      elsewhere (loaded .turn) (loaded .ran) (loaded .there)
 
 -- ---- the blocks: what their walks leave, and that none writes a local
 
@@ -101,7 +118,7 @@ abbrev negCode : List ℕ
 negCode = 0x2a ∷ 0x74 ∷ 0xbe ∷ []
 
 neg-walked : Leaves Full negCode 2 2 (0 ∷ [])
-unfolding blockWalkIn completed completedFrom walk walkFrom step rowOf addedRow fullRowOf fixedLength formatOf
+unfolding blockWalkIn completed completedFrom walk walkFrom step rowOf addedRow widenedRow fullRowOf fixedLength formatOf
 neg-walked = refl
 
 neg-keeps : (pool : Pool) (j : ℕ) → j < 2 → numbers pool negCode j .locals 0 ≡ 0
@@ -118,7 +135,7 @@ abbrev copyCode : List ℕ
 copyCode = 0x2a ∷ 0x2b ∷ 0x5a ∷ 0xbe ∷ []
 
 copy-walked : Leaves Full copyCode 3 3 (cellOf 1 1 ∷ cellOf 0 0 ∷ cellOf 1 1 ∷ [])
-unfolding blockWalkIn completed completedFrom walk walkFrom step rowOf addedRow fullRowOf fixedLength formatOf
+unfolding blockWalkIn completed completedFrom walk walkFrom step rowOf addedRow widenedRow fullRowOf fixedLength formatOf
 copy-walked = refl
 
 copy-keeps : (pool : Pool) (j : ℕ) → j < 3 → numbers pool copyCode j .locals 0 ≡ 0
@@ -132,6 +149,27 @@ copy-keeps pool (suc (suc (suc j))) below = absurd (omega arith)
 copy-leaves : (pool : Pool) → getD (numbers pool copyCode 3 .stack) 0 0 ≡ 1
 unfolding ran entryOf formatOf extentAt
 copy-leaves pool = refl
+
+abbrev farCode : List ℕ
+farCode = 0xc4 ∷ 0x19 ∷ 1 ∷ 44 ∷ 0xbe ∷ []
+
+far-walked : Leaves Full farCode 4 1 (cellOf 0 300 ∷ [])
+unfolding blockWalkIn completed completedFrom walk walkFrom step rowOf addedRow widenedRow fullRowOf fixedLength formatOf u16At
+far-walked = refl
+
+far-keeps : (pool : Pool) (j : ℕ) → j < 1 → numbers pool farCode j .locals 44 ≡ 44
+unfolding ran
+far-keeps pool zero below = refl
+far-keeps pool (suc j) below = absurd (omega arith)
+
+far-leaves : (pool : Pool) → getD (numbers pool farCode 1 .stack) 0 0 ≡ 300
+unfolding ran entryOf u16At
+far-leaves pool = refl
+
+far-starts : (pool : Pool) (j : ℕ) → j < 1 → numbers pool farCode j .pc ≡ 1 → ⊥
+unfolding ran
+far-starts pool zero below e = omega (arith, e)
+far-starts pool (suc j) below e = absurd (omega arith)
 
 pub has-force : HasForce
 has-force =
@@ -161,5 +199,16 @@ has-force =
           record {
             walked = copy-walked;
             untrue = λ pool. refuted copyCode pool 3 3 _ 0 0 (copy-keeps pool) (copy-leaves pool) (lit< tt) refl;
+          };
+      localCut =
+          record {
+            walked = far-walked;
+            untrue = λ pool.
+                untrue-of farCode pool 4 1 _ 0 0 44 300 (lit< tt) (λ e. omega (arith, e)) (far-keeps pool) (far-leaves pool) (lit< tt) refl;
+          };
+      loadMoved =
+          record {
+            walked = far-walked;
+            untrue = λ pool. unmoved farCode pool 4 1 _ 0 1 300 (lit< tt) (far-starts pool) (lit< tt) refl;
           };
     }

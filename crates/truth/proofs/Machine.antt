@@ -69,5 +69,5 @@ module _ {A Val : Type 0} (s : Setting A Val) (st : State Val) where
   acted (eitherOf f others) t = record { form = f; its = List·Memᴰ·head refl; stack = refl; pc = refl }
   acted (loads l f) t = record { form = f; its = List·Memᴰ·head refl; stack = refl; pc = refl }
   acted (stores l f) t = record { form = f; its = List·Memᴰ·head refl; stack = refl; pc = refl }
-  acted (increments f) t = record { form = f; its = List·Memᴰ·head refl; stack = refl; pc = refl }
+  acted (increments l f) t = record { form = f; its = List·Memᴰ·head refl; stack = refl; pc = refl }
   acted (throws os) t = absurd t

@@ -1,15 +1,18 @@
 -- An effect of the walk with its operands read: the slots of a cited descriptor that is well formed are those of its tree.
 -- Assumes nothing.
-use Prim.Native.Nat.{ℕ, _+_}
-use mathlib.Core.Path.{_≡_, refl, _∙_, ap}
+use Prim.Native.Nat.{ℕ, _+_, _<_}
+use native.Mathlib.Omega.{arith}
+use mathlib.Core.Path.{_≡_, refl, _∙_, sym, ap, subst}
 use mathlib.Core.Bool.{Bool, true, false}
 use mathlib.Core.List.{List}
-use lib.Dec.{T, eqb, ltb}
+use lib.Dec.{T, eqb, leb, ltb, leb→le}
 use lib.ListN.{length}
 use Rattle.basics.specs.Bytes.{byteAt, u16At}
 use Rattle.basics.specs.Choice.{pick, between}
+use Rattle.basics.proofs.Every.{both-second}
 use Rattle.jvms.specs.Machine.{Pool, citedAt}
 use Rattle.jvms.specs.Stack.{Cited, keyAt}
+use Rattle.jvms.proofs.Keys.{key-plain}
 use Rattle.descriptor.specs.Readers.{parameters, returnSlots, fieldSlots}
 use Rattle.descriptor.specs.declared.Params.the-variants.{Read}
 use Rattle.descriptor.specs.declared.Slots.the-variants.{Slots as SlotsOf}
@@ -17,7 +20,7 @@ use Rattle.descriptors.specs.Lenient.{closingAt}
 use Rattle.descriptors.proofs.Agree.{lenient-agrees}
 use Rattle.effects.specs.Agreement.{takenBy, Details}
 use Rattle.effects.specs.Lookup.{Known, missing, known, Lookup}
-use Rattle.effects.specs.Rows.{Row, unmodelled, opaque, aload, aloadOf, carries, keeps, gets, calls, puts, makes}
+use Rattle.effects.specs.Rows.{Row, unmodelled, opaque, aload, aloadFar, aloadOf, carries, keeps, gets, calls, puts, makes}
 use Rattle.walk.specs.Walk.{notModelled, cut, Marks, Push, blanks, load, carried, unread, Effect, fails, does, getting, putting, making, calling, effectBy, made, applied}
 use Rattle.truth.specs.Condition.{Described}
 use Rattle.walk.proofs.Step.{refused-not-made}
@@ -27,6 +30,7 @@ abbrev pub pushFor : Pool → List ℕ → ℕ → Row → Push
 pushFor pool code pc unmodelled = unread notModelled
 pushFor pool code pc (opaque taken given) = blanks given
 pushFor pool code pc aload = load (byteAt code (pc + 1))
+pushFor pool code pc aloadFar = load (u16At code (pc + 2))
 pushFor pool code pc (aloadOf local) = load local
 pushFor pool code pc (carries taken places) = carried places
 pushFor pool code pc keeps = blanks 0
@@ -41,6 +45,12 @@ module _ (lookup : Lookup) (pool : Pool) (code : List ℕ) (pc : ℕ) (told : De
 
   abbrev index : ℕ
   index = u16At code (pc + 1)
+
+  -- a key that is an opcode is the byte there
+  plainly : (a b : ℕ) → b < 256 → T (between a b (keyAt code pc)) → T (between a b (byteAt code pc))
+  plainly a b small t =
+      let below = leb→le (keyAt code pc) b (both-second (leb a (keyAt code pc)) (leb (keyAt code pc) b) t) in
+      subst (λ (op : ℕ). T (between a b op)) (sym (key-plain code pc (omega (arith, below)))) t
 
   -- ---- descriptors
 
@@ -122,14 +132,15 @@ module _ (lookup : Lookup) (pool : Pool) (code : List ℕ) (pc : ℕ) (told : De
     effect-read unmodelled details e = refused-not-made e
     effect-read (opaque taken given) details e = e
     effect-read aload details e = uncut-makes (pc + 1) (does 0 (load (byteAt code (pc + 1)))) e
+    effect-read aloadFar details e = uncut-makes (pc + 3) (does 0 (load (u16At code (pc + 2)))) e
     effect-read (aloadOf local) details e = e
     effect-read (carries taken places) details e = e
     effect-read keeps details e = e
     effect-read (gets taken) details e =
-        getting-makes taken details (uncut-makes (pc + 2) (getting taken (lookup 0 index)) e)
+        getting-makes taken (plainly 178 181 (omega arith) details) (uncut-makes (pc + 2) (getting taken (lookup 0 index)) e)
     effect-read (calls taken) details e =
-        calling-makes taken details (uncut-makes (pc + 2) (calling taken (lookup 1 index)) e)
+        calling-makes taken (plainly 182 185 (omega arith) details) (uncut-makes (pc + 2) (calling taken (lookup 1 index)) e)
     effect-read (puts taken) details e =
-        putting-makes taken details (uncut-makes (pc + 2) (putting taken (lookup 0 index)) e)
+        putting-makes taken (plainly 178 181 (omega arith) details) (uncut-makes (pc + 2) (putting taken (lookup 0 index)) e)
     effect-read makes details e =
         making-makes (byteAt code (pc + 3)) (uncut-makes (pc + 3) (making (byteAt code (pc + 3))) e)

@@ -2,7 +2,7 @@
 -- Assumes nothing.
 use Prim.Native.Nat.{ℕ, _+_, _-_, _<_}
 use native.Mathlib.Omega.{arith}
-use mathlib.Core.Path.{_≡_, refl, _∙_, sym, ap}
+use mathlib.Core.Path.{_≡_, refl, _∙_, sym, ap, subst}
 use mathlib.Core.Bool.{Bool, true, false}
 use mathlib.Core.List.{List, [], _∷_}
 use lib.Dec.{T, ltb}
@@ -12,6 +12,7 @@ use Rattle.basics.specs.Bytes.{byteAt, u16At, AreBytes}
 use Rattle.basics.specs.Choice.{pick}
 use Rattle.jvms.specs.Machine.{Pool, citedAt, State, isReference, topmost, dereferenced, target}
 use Rattle.jvms.specs.Stack.{Operand, Cited, slotsOf, slotsIn, nameOf}
+use Rattle.jvms.proofs.Keys.{plain-key}
 use Rattle.descriptor.specs.Readers.{fieldSlots}
 use Rattle.effects.specs.Agreement.{isDereference, aboveBy, citesMember}
 use Rattle.effects.specs.Depth.{Rule, none, fixed, reads, writes, invokes, ruleOf, Depth, nowhere, at, fieldDepth, callDepth, uncut, depthBy, depthOf}
@@ -118,6 +119,11 @@ module _ {Val : Type 0} (stack : List Val) (absent : Val) where
       by-name true t others = rw (single, weighs) (top-but depth enough)
       by-name false t others = absurd t
 
+-- `wide` dereferences nothing
+not-wide : (op : ℕ) → T (isDereference (ruleOf op)) → op ≡ 196 → ⊥
+unfolding ruleOf
+not-wide op t e = subst (λ (k : ℕ). T (isDereference (ruleOf k))) e t
+
 pub very-slot :
     {Val : Type 0} (lookup : Lookup) (pool : Pool) (code : List ℕ) → AreBytes code → (st : State Val) →
     Described lookup pool code (st .pc) → (depth : ℕ) (absent : Val) → depthOf lookup code (st .pc) ≡ at depth →
@@ -128,6 +134,6 @@ very-slot lookup pool code bytes st told depth absent e enough =
     let cited : Cited = citedAt pool code (st .pc) in
     let deep = deep-at lookup pool code (st .pc) told depth bytes e in
     let agrees = depths-agree op (bytes (st .pc)) (deep .dereferences) in
-    rw (agrees .listed)
+    rw (plain-key code (st .pc) (not-wide op (deep .dereferences)), agrees .listed)
     (first-operand (st .stack) absent cited (agrees .operand) (agrees .above) depth (agrees .named) (agrees .single cited)
     (agrees .weighs cited ∙ deep .above) enough)

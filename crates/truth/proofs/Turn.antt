@@ -18,7 +18,7 @@ use Rattle.bytecode.specs.declared.Measure.the-variants.{Length}
 use Rattle.bytecode.proofs.Measuring.{fits}
 use Rattle.lengths.proofs.Agree.{jvms-length}
 use Rattle.effects.specs.Agreement.{isModelled, hasEffect, takenBy, Pushed, FormAgrees, formsOf, hasForm, EffectAgrees}
-use Rattle.effects.specs.Rows.{Row, unmodelled, opaque, aload, aloadOf, carries, keeps, gets, calls, puts, makes}
+use Rattle.effects.specs.Rows.{Row, unmodelled, opaque, aload, aloadFar, aloadOf, carries, keeps, gets, calls, puts, makes}
 use Rattle.walk.specs.Walk.{blanks, effectBy, made, applied}
 use Rattle.truth.specs.Condition.{InBlock, after, Described}
 use Rattle.truth.specs.Relation.{Setting, own, Speaks, Given}
@@ -37,6 +37,7 @@ sort-of : (row : Row) → Sort row
 sort-of unmodelled = missing
 sort-of (opaque taken given) = effective tt tt
 sort-of aload = effective tt tt
+sort-of aloadFar = effective tt tt
 sort-of (aloadOf local) = effective tt tt
 sort-of (carries taken places) = effective tt tt
 sort-of keeps = keeping
@@ -72,7 +73,7 @@ module _
 
   module _ (modelled : T (isModelled (s .rows op))) where
     extent : extentAt (s .code) (st .pc) ≡ takes size
-    extent = given .agrees .sized (s .code) (st .pc) known modelled
+    extent = given .agrees .sized (s .code) (given .bytes) (st .pc) modelled
 
     on-by-size : after-it .pc ≡ st .pc + sizeOf (extentAt (s .code) (st .pc)) → after-it .pc ≡ st .pc + size
     on-by-size e = e ∙ ap (λ (x : Extent). st .pc + sizeOf x) extent

@@ -20,7 +20,7 @@ use Rattle.truth.specs.Translation.{since, HeldWhen, TrueTranslation}
 -- n held when b ran.
 abbrev pub CauseNames : Findings → Pool → Type 1
 CauseNames f pool =
-    (depth b n : ℕ) → depthOf (lookupIn (f .members) (f .memberCount)) (f .code) (f .fault) ≡ at depth → depth < f .height → n < 256 →
+    (depth b n : ℕ) → depthOf (lookupIn (f .members) (f .memberCount)) (f .code) (f .fault) ≡ at depth → depth < f .height → n < 65536 →
     getD (f .stack) (f .height - 1 - depth) 0 ≡ cellOf b n →
     (Val : Type 0) (opaque : ℕ → ℕ → Val) (entering : List Val) (locals : ℕ → Val) →
     (v : Val) × (target pool (f .code) (since pool (f .code) opaque (f .leader) entering locals (f .count)) ≡ v ∷ [])
@@ -66,3 +66,6 @@ pub record HasForce : Type 1 where
   pub copyMisplaced :
       Refuted Full (0x2a ∷ 0x2b ∷ 0x5a ∷ 0xbe ∷ []) 3 3 (cellOf 1 1 ∷ cellOf 0 0 ∷ cellOf 1 1 ∷ [])
       (cellOf 0 0 ∷ cellOf 1 1 ∷ cellOf 1 1 ∷ [])
+  -- wide aload 300, arraylength: its load's local by the last byte alone; and its load at the opcode behind `wide`
+  pub localCut : Refuted Full (0xc4 ∷ 0x19 ∷ 1 ∷ 44 ∷ 0xbe ∷ []) 4 1 (cellOf 0 300 ∷ []) (cellOf 0 44 ∷ [])
+  pub loadMoved : Refuted Full (0xc4 ∷ 0x19 ∷ 1 ∷ 44 ∷ 0xbe ∷ []) 4 1 (cellOf 0 300 ∷ []) (cellOf 1 300 ∷ [])

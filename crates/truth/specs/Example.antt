@@ -1,4 +1,4 @@
--- Condition 3 at work on one block in each model, so that its premises are seen to be met.
+-- Condition 3 at work on a block in document 01's model and on two in the full one, so that its premises are seen to be met.
 -- Assumes nothing.
 use Prim.Native.Nat.{ℕ}
 use mathlib.Core.Path.{_≡_}
@@ -39,7 +39,7 @@ worked =
       height = 2;
       count = 10;
       -- the load of local 0 at 0, and that of local 1 at 13
-      stack = 1 ∷ 3330 ∷ 0 ∷ 0 ∷ [];
+      stack = 1 ∷ 851970 ∷ 0 ∷ 0 ∷ [];
     }
 
 -- The full model (document 02, request 1), on a block with arithmetic, a store and a form of dup that document 01 leaves out, Java's
@@ -60,16 +60,36 @@ fullWorked =
       stack = 1 ∷ 0 ∷ 0 ∷ 0 ∷ 0 ∷ 0 ∷ [];
     }
 
+-- The full model (document 02, request 7), on a local above 255: wide aload 300, aconst_null, wide astore 300, wide iinc 299 by 1, and the
+-- fault, arraylength. The cause is local 300 as loaded at 0, though a store to it lies between.
+abbrev pub farWorked : Findings
+farWorked =
+    record {
+      model = Full;
+      code = 0xc4 ∷ 0x19 ∷ 1 ∷ 44 ∷ 0x01 ∷ 0xc4 ∷ 0x3a ∷ 1 ∷ 44 ∷ 0xc4 ∷ 0x84 ∷ 1 ∷ 43 ∷ 0 ∷ 1 ∷ 0xbe ∷ 0xb1 ∷ [];
+      members = members;
+      memberCount = 2;
+      fault = 15;
+      leader = 0;
+      height = 1;
+      count = 4;
+      -- the load of local 300 at 0
+      stack = 301 ∷ 0 ∷ [];
+    }
+
 abbrev pub PremisesMet : Findings → Type 0
 PremisesMet f = Premises f pool
 
--- whatever the values, what would be dereferenced is what local 0 held when the instruction at 0 ran
-abbrev pub NamedRightly : Findings → Type 1
-NamedRightly f =
+-- whatever the values, what would be dereferenced is what the local held when the instruction at 0 ran
+abbrev pub NamedRightly : Findings → ℕ → Type 1
+NamedRightly f local =
     (Val : Type 0) (opaque : ℕ → ℕ → Val) (entering : List Val) (locals : ℕ → Val) →
     (v : Val) × (target pool (f .code) (since pool (f .code) opaque 0 entering locals (f .count)) ≡ v ∷ [])
-    × HeldWhen (since pool (f .code) opaque 0 entering locals) (f .count) 0 0 v
+    × HeldWhen (since pool (f .code) opaque 0 entering locals) (f .count) 0 local v
 
--- document 01's model has no name for the second: its walk fails at the product
+-- document 01's model has no name for the second and the third: its walk fails at the product, and at `wide`
 abbrev pub BeyondDocument : Type 0
 BeyondDocument = answerOf (blockWalk (fullWorked .code) members 2 0 11 6) ≡ Failed 6
+
+abbrev pub BeyondNarrow : Type 0
+BeyondNarrow = answerOf (blockWalk (farWorked .code) members 2 0 15 2) ≡ Failed 0

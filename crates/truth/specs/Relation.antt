@@ -46,7 +46,7 @@ module _ {A Val : Type 0} (s : Setting A Val) where
   ownBy st (eitherOf f others) = s .opaque (st .pc)
   ownBy st (loads l f) = λ k. st .locals (localAt (s .code) (st .pc) l + k)
   ownBy st (stores l f) = s .opaque (st .pc)
-  ownBy st (increments f) = s .opaque (st .pc)
+  ownBy st (increments l f) = s .opaque (st .pc)
   ownBy st (throws os) = s .opaque (st .pc)
 
   abbrev pub own : State Val → ℕ → Val
@@ -55,7 +55,7 @@ module _ {A Val : Type 0} (s : Setting A Val) where
   -- what the slots that are written here say is true: of what the instruction makes, and of what a local holds
   pub record Speaks (st : State Val) : Type 0 where
     pub made : (k : ℕ) → s .Says (s .marks .blank (st .pc)) (own st k)
-    pub held : (n : ℕ) → n < 256 → s .Says (s .marks .mark (st .pc) n) (st .locals n)
+    pub held : (n : ℕ) → n < 65536 → s .Says (s .marks .mark (st .pc) n) (st .locals n)
 
   -- what is supposed of the rows, the code and the cited descriptors
   pub record Given : Type 1 where

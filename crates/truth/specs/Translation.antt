@@ -28,7 +28,7 @@ pub record Translates {Val : Type 0} (machine : ℕ → State Val) (fault : ℕ)
   pub oneEach : length (machine count .stack) ≡ length entering + length slots
   -- "a slot marked as a load of local n at index b holds what n held when b ran"
   pub holds :
-      (k b n : ℕ) (absent : Val) → k < length slots → n < 256 → getD slots k 0 ≡ cellOf b n →
+      (k b n : ℕ) (absent : Val) → k < length slots → n < 65536 → getD slots k 0 ≡ cellOf b n →
       HeldWhen machine count b n (getD (machine count .stack) (length entering + k) absent)
 
 -- "On a plain stack machine, from any entering stack, locals and opaque results"

@@ -15,7 +15,7 @@ use Rattle.jvms.proofs.Keys.{key-below}
 use Rattle.fixed.specs.Fixed.{sizeAt}
 use Rattle.effects.specs.Agreement.{isModelled, Sized}
 use Rattle.effects.specs.Lookup.{Lookup}
-use Rattle.effects.specs.Rows.{Row, unmodelled, opaque, aload, aloadOf, carries, keeps, gets, calls, puts, makes}
+use Rattle.effects.specs.Rows.{Row, unmodelled, opaque, aload, aloadFar, aloadOf, carries, keeps, gets, calls, puts, makes}
 use Rattle.walk.specs.Walk.{Reason, pastEnd, tooLarge, tooFew, Marks, Push, blanks, load, carried, unread, does, effectBy}
 use Rattle.walk.specs.Walk.{Made, refused, made, placed, pushed, applied, stops, goes, passes, landed, step}
 
@@ -108,6 +108,7 @@ module _
   made-modelled unmodelled slots e = refused-not-made e
   made-modelled (opaque takes gives) slots e = tt
   made-modelled aload slots e = tt
+  made-modelled aloadFar slots e = tt
   made-modelled (aloadOf local) slots e = tt
   made-modelled (carries takes places) slots e = tt
   made-modelled keeps slots e = tt

@@ -1,14 +1,15 @@
 -- The worked walks, by computing them.
 -- Assumes nothing.
 use mathlib.Core.Path.{refl}
+use Rattle.basics.specs.Bytes.{u16At}
 use Rattle.jvms.specs.Format.{formatOf}
 use Rattle.fixed.specs.Fixed.{fixedLength}
-use Rattle.effects.specs.Rows.{rowOf, addedRow, fullRowOf}
+use Rattle.effects.specs.Rows.{rowOf, addedRow, widenedRow, fullRowOf}
 use Rattle.walk.specs.Walk.{step, walkFrom, walk}
 use Rattle.walk.specs.Worked.{Worked}
 
 pub worked : Worked
-unfolding rowOf addedRow fullRowOf formatOf fixedLength step walkFrom walk
+unfolding rowOf addedRow widenedRow fullRowOf formatOf fixedLength u16At step walkFrom walk
 worked =
     record {
       loads = refl;
@@ -28,5 +29,15 @@ worked =
       noDimension = refl;
       cutDimension = refl;
       tooFewSlots = refl;
+      farLoads = refl;
+      farthest = refl;
+      farOthers = refl;
+      farStores = refl;
+      farIncrements = refl;
+      farReturns = refl;
+      farNothing = refl;
+      farCut = refl;
+      farUnread = refl;
+      farUnmodelled = refl;
       dynamic = refl;
     }

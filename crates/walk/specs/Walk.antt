@@ -1,4 +1,4 @@
--- The walk from a leader to a fault (document 01, "The walk"; document 02, request 1), over any way to write slots and any table of
+-- The walk from a leader to a fault (document 01, "The walk"; document 02, requests 1 and 7), over any way to write slots and any table of
 -- rows. It is defined without room; Room.antt judges that.
 -- Assumes nothing.
 use Prim.Native.Nat.{ℕ, zero, suc, _+_, _-_}
@@ -17,10 +17,10 @@ use Rattle.descriptor.specs.declared.Params.the-variants.{Read, Unreadable as N
 use Rattle.descriptor.specs.declared.Slots.{Slots}
 use Rattle.descriptor.specs.declared.Slots.the-variants.{Slots as SlotsOf, Unreadable as NoSlots}
 use Rattle.effects.specs.Lookup.{Known, missing, known, Lookup}
-use Rattle.effects.specs.Rows.{Row, unmodelled, opaque, aload, aloadOf, carries, keeps, gets, calls, puts, makes}
+use Rattle.effects.specs.Rows.{Row, unmodelled, opaque, aload, aloadFar, aloadOf, carries, keeps, gets, calls, puts, makes}
 
 -- why a walk fails. A step tests in this order; `overshot` is the walk's own. Dimensions of 0 are `notModelled`, tested where they are
--- not cut.
+-- not cut; so is a `wide` that nothing follows.
 pub data Reason : Type 0 where
   pastEnd notModelled cut tooLarge missingMember unreadableParameters tooFew unreadableReturn overshot : Reason
 
@@ -73,7 +73,8 @@ calling takes missing = fails missingMember
 calling takes (known descriptor) = called takes (parameters descriptor) (returnSlots descriptor)
 
 module _ (lookup : Lookup) (code : List ℕ) (pc : ℕ) where
-  -- "Only `aload`'s local and member indexes are read, failing when cut"; in the full model the dimensions byte too
+  -- "Only `aload`'s local and member indexes are read, failing when cut"; in the full model the dimensions byte and the local of
+  -- `wide aload` too
   abbrev pub uncut : ℕ → Effect → Effect
   uncut last effect = pick (ltb last (length code)) effect (fails cut)
 
@@ -81,6 +82,7 @@ module _ (lookup : Lookup) (code : List ℕ) (pc : ℕ) where
   effectBy unmodelled = fails notModelled
   effectBy (opaque takes gives) = does takes (blanks gives)
   effectBy aload = uncut (pc + 1) (does 0 (load (byteAt code (pc + 1))))
+  effectBy aloadFar = uncut (pc + 3) (does 0 (load (u16At code (pc + 2))))
   effectBy (aloadOf local) = does 0 (load local)
   effectBy (carries takes places) = does takes (carried places)
   effectBy keeps = does 0 (blanks 0)

@@ -63,5 +63,21 @@ pub record Worked : Type 0 where
   pub cutDimension : Fails Full (0x04 ∷ 0xc5 ∷ 0x00 ∷ 0x01 ∷ []) 5 1 1 cut
   -- iconst_1, iadd: taking more slots than there are
   pub tooFewSlots : Fails Full (0x04 ∷ 0x60 ∷ 0xbe ∷ []) 2 1 1 tooFew
+  -- nop, wide aload 300: the load is of the two bytes behind the opcode, at the index of `wide`; and so for local 65,535
+  pub farLoads : Leaves Full (0x00 ∷ 0xc4 ∷ 0x19 ∷ 0x01 ∷ 0x2c ∷ []) (65837 ∷ []) 2
+  pub farthest : Leaves Full (0xc4 ∷ 0x19 ∷ 0xff ∷ 0xff ∷ []) (65536 ∷ []) 1
+  -- wide lload 300, wide iload 300: opaque
+  pub farOthers : Leaves Full (0xc4 ∷ 0x16 ∷ 0x01 ∷ 0x2c ∷ 0xc4 ∷ 0x15 ∷ 0x01 ∷ 0x2c ∷ []) (0 ∷ 0 ∷ 0 ∷ []) 2
+  -- aload_0, lconst_1, wide lstore 300; aload_0, wide iinc 300 by 5
+  pub farStores : Leaves Full (0x2a ∷ 0x0a ∷ 0xc4 ∷ 0x37 ∷ 0x01 ∷ 0x2c ∷ []) (cellOf 0 0 ∷ []) 3
+  pub farIncrements : Leaves Full (0x2a ∷ 0xc4 ∷ 0x84 ∷ 0x01 ∷ 0x2c ∷ 0x00 ∷ 0x05 ∷ []) (cellOf 0 0 ∷ []) 2
+  -- wide ret, a `wide` that nothing follows, wide aload with its local cut off
+  pub farReturns : Fails Full (0xc4 ∷ 0xa9 ∷ 0x00 ∷ 0x01 ∷ 0xbe ∷ []) 4 0 0 notModelled
+  pub farNothing : Fails Full (0xc4 ∷ []) 1 0 0 notModelled
+  pub farCut : Fails Full (0xc4 ∷ 0x19 ∷ 0x01 ∷ []) 4 0 0 cut
+  -- wide iload reads nothing behind it, as iload does, and is completed
+  pub farUnread : walk cells (rowsOf Full) nothing (0xc4 ∷ 0x15 ∷ []) 4 0 ≡ done (0 ∷ []) 1
+  -- document 01's model has no `wide`
+  pub farUnmodelled : Fails Document (0xc4 ∷ 0x19 ∷ 0x01 ∷ 0x2c ∷ 0xbe ∷ []) 4 0 0 notModelled
   -- invokedynamic
   pub dynamic : Fails Full (0xba ∷ 0x00 ∷ 0x01 ∷ 0x00 ∷ 0x00 ∷ 0xbe ∷ []) 5 0 0 notModelled

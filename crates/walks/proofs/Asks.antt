@@ -12,7 +12,7 @@ use Rattle.basics.specs.Choice.{pick}
 use Rattle.jvms.specs.Stack.{keyAt}
 use Rattle.fixed.specs.Fixed.{sizeAt}
 use Rattle.effects.specs.Lookup.{Lookup}
-use Rattle.effects.specs.Rows.{Row, unmodelled, opaque, aload, aloadOf, carries, keeps, gets, calls, puts, makes}
+use Rattle.effects.specs.Rows.{Row, unmodelled, opaque, aload, aloadFar, aloadOf, carries, keeps, gets, calls, puts, makes}
 use Rattle.walk.specs.Room.{completing, completedFrom, completed, Roomed, lacks, judged}
 use Rattle.walk.specs.Walk.{Marks, pastEnd, Effect, effectBy, applied, landed}
 use Rattle.walk.specs.Walk.{Outcome, stops, goes, passes, step, ended, after, walkFrom, walk}
@@ -24,6 +24,7 @@ module _ {A : Type 0} (marks : Marks A) (rows : ℕ → Row) (one other : Lookup
   effect-same pc unmodelled a = refl
   effect-same pc (opaque taken given) a = refl
   effect-same pc aload a = refl
+  effect-same pc aloadFar a = refl
   effect-same pc (aloadOf local) a = refl
   effect-same pc (carries taken places) a = refl
   effect-same pc keeps a = refl

@@ -12,7 +12,7 @@ use Rattle.jvms.specs.Stack.{keyAt}
 use Rattle.fixed.specs.Fixed.{sizeAt}
 use Rattle.effects.specs.Agreement.{isModelled}
 use Rattle.effects.specs.Lookup.{Lookup}
-use Rattle.effects.specs.Rows.{Row, unmodelled, opaque, aload, aloadOf, carries, keeps, gets, calls, puts, makes}
+use Rattle.effects.specs.Rows.{Row, unmodelled, opaque, aload, aloadFar, aloadOf, carries, keeps, gets, calls, puts, makes}
 use Rattle.walk.specs.Room.{Completed, completing, completedFrom, completed}
 use Rattle.walk.specs.Walk.{pastEnd, notModelled, Marks, effectBy, applied, Outcome, stops, goes, passes, landed}
 use Rattle.walk.specs.Walk.{Walked, failed, step, ended, after, walkFrom, walk}
@@ -50,6 +50,7 @@ modelled-or-not : (row : Row) → T (isModelled row) ⊎ (row ≡ unmodelled)
 modelled-or-not unmodelled = inr refl
 modelled-or-not (opaque taken given) = inl tt
 modelled-or-not aload = inl tt
+modelled-or-not aloadFar = inl tt
 modelled-or-not (aloadOf local) = inl tt
 modelled-or-not (carries taken places) = inl tt
 modelled-or-not keeps = inl tt

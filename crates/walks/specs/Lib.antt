@@ -1,4 +1,5 @@
 pub mod Calls
+pub mod Cells
 pub mod Comes
 pub mod Marks
 pub mod Models

@@ -9,7 +9,7 @@ use Rattle.basics.specs.Bytes.{u16At}
 use Rattle.jvms.specs.Stack.{keyAt}
 use Rattle.effects.specs.Agreement.{isModelled}
 use Rattle.effects.specs.Lookup.{Lookup}
-use Rattle.effects.specs.Rows.{Row, unmodelled, opaque, aload, aloadOf, carries, keeps, gets, calls, puts, makes}
+use Rattle.effects.specs.Rows.{Row, unmodelled, opaque, aload, aloadFar, aloadOf, carries, keeps, gets, calls, puts, makes}
 use Rattle.walk.specs.Room.{Completed, completed, judged}
 use Rattle.walk.specs.Walk.{notModelled, Marks, failed, walk}
 use Rattle.walks.specs.Comes.{ComesIn}
@@ -45,6 +45,7 @@ abbrev pub AlikeFor : Row → Lookup → Lookup → List ℕ → ℕ → Type 0
 AlikeFor unmodelled one other code pc = Unit {0}
 AlikeFor (opaque taken given) one other code pc = Unit {0}
 AlikeFor aload one other code pc = Unit {0}
+AlikeFor aloadFar one other code pc = Unit {0}
 AlikeFor (aloadOf local) one other code pc = Unit {0}
 AlikeFor (carries taken places) one other code pc = Unit {0}
 AlikeFor keeps one other code pc = Unit {0}

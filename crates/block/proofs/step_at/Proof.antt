@@ -1,13 +1,15 @@
 -- `block::step_at` meets its contract. A case on how the effect was laid into the cells.
 -- Assumes nothing.
 use native.Mathlib.Omega.{arith}
-use mathlib.Core.Path.{_≡_, _∙_, ap}
+use Prim.Native.Nat.{ℕ}
+use mathlib.Core.Path.{_≡_, _∙_, ap, ap₂}
 use lib.ListN.{take}
 use borrow.Author.Needs.{needs}
 use Rattle.jvms.specs.Stack.{keyAt}
+use Rattle.fixed.specs.Fixed.{keyLength}
 use Rattle.effects.specs.Lookup.{Lookup, lookupIn}
 use Rattle.effects.specs.Rows.{rowsOf}
-use Rattle.walk.specs.Walk.{effectBy}
+use Rattle.walk.specs.Walk.{Effect, effectBy}
 use Rattle.instruction.specs.Code.{effectFrom, bare}
 use Rattle.instruction.proofs.Laws.{looks-alike}
 use Rattle.block.proofs.Stepping as stepping
@@ -20,8 +22,8 @@ returns c =
     stepping.past-end (rowsOf (a .model)) (lookupIn (a .members .now) (a .count)) (a .code .now) (a .fault) (a .pc) (a .stack .now)
     (take (a .height) (a .stack .now)) (c .if1 .taken)
 
-shared-slice-read-op : tie.Need-shared-slice-read-op
-shared-slice-read-op c = search needs
+key-at-requires : tie.Need-key-at-requires
+key-at-requires c κs = search needs
 
 effect-of-requires : tie.Need-effect-of-requires
 effect-of-requires c κs = search needs
@@ -35,15 +37,12 @@ known :
 known c =
     let start = c .before .before .before .before .before .before .before in
     let a = start .args in
+    let effect : Lookup → ℕ → Effect = λ look key. bare (effectBy look (a .code .now) (a .pc) (rowsOf (a .model) key)) in
     c .effect-of .ensures
-    ∙ ap (λ (look : Lookup). bare (effectBy look (a .code .now) (a .pc) (rowsOf (a .model) (keyAt (a .code .now) (a .pc)))))
-    (looks-alike (a .members .now) (a .count) (a .table .now) (start .pre .1 .0))
+    ∙ ap₂ effect (looks-alike (a .members .now) (a .count) (a .table .now) (start .pre .1 .0)) (c .before .key-at .ensures)
 
-fixed-by-requires : tie.Need-fixed-by-requires
-fixed-by-requires c κs = search needs
-
-cast-size : tie.Need-cast-size
-cast-size c = search needs
+size-by-requires : tie.Need-size-by-requires
+size-by-requires c κs = search needs
 
 apply-requires : tie.Need-apply-requires
 apply-requires c κs = search needs
@@ -91,10 +90,8 @@ returns-4 : tie.Need-returns-4
 returns-4 c =
     let laid = c .before .before .before .before .before .before in
     let read = laid .before .before .before in
-    let start = read .before .before .before .before .before .before .before in
-    let a = start .args in
-    let size =
-    laid .before .before .fixed-by .ensures ∙ start .pre .0 .entries _ (read .before .shared-slice-known4 .given (a .pc) .fits) in
+    let a = read .before .before .before .before .before .before .before .args in
+    let size = laid .before .before .size-by .ensures ∙ ap keyLength (read .before .key-at .ensures) in
     stepping.lands-at (rowsOf (a .model)) (lookupIn (a .members .now) (a .count)) (a .code .now) (a .fault) (a .pc) (a .stack .now)
     (take (a .height) (a .stack .now)) (omega arith) _ (known read) _ _ _ _ size
     (rw (c .before .before .next .given .1) at (laid .apply .ensures))
@@ -105,10 +102,9 @@ step-at-spec =
     tie.close
     (tie.spec
     returns
-    shared-slice-read-op
+    key-at-requires
     effect-of-requires
-    fixed-by-requires
-    cast-size
+    size-by-requires
     apply-requires
     enum-told
     enum-told-2

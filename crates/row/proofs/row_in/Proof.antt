@@ -1,51 +1,45 @@
--- `row::row_in` meets its contract. By whether document 01 models the opcode, and by the model.
+-- `row::row_in` meets its contract. A case on the key.
 -- Assumes nothing.
-use mathlib.Core.Path.{_∙_}
+use Prim.Native.Nat.{ℕ, _+_}
+use native.Mathlib.Omega.{arith}
 use borrow.Author.Needs.{needs}
-use Rattle.row.proofs.Full.{full-added, kept-in}
+use Rattle.row.proofs.Few.{few-so}
 use Rattle.row.proofs.row_in.Statement.{statement}
 use Rattle.row.proofs.row_in.Tie as tie
 
-row-of-requires : tie.Need-row-of-requires
-row-of-requires c κs = search needs
+enum-known-key : tie.Need-enum-known-key
+enum-known-key c = search needs
 
-enum-told : tie.Need-enum-told
-enum-told c = search needs
+plain-row-requires : tie.Need-plain-row-requires
+plain-row-requires c κs = search needs
 
-enum-told-2 : tie.Need-enum-told-2
-enum-told-2 c = search needs
+enum-known-key-2 : tie.Need-enum-known-key-2
+enum-known-key-2 c = search needs
 
-added-row-requires : tie.Need-added-row-requires
-added-row-requires c κs = search needs
+wide-row-requires : tie.Need-wide-row-requires
+wide-row-requires c κs = search needs
 
 returns : tie.Need-returns
 returns c =
-    let none = c .before .before .before in
-    let found = none .before .before in
-    rw (c .before .enum-told2 .given .1)
-    (c .added-row .ensures ∙ full-added (found .before .args .op) _ (found .row-of .ensures) (none .enum-told .given .1))
-
-enum-told-3 : tie.Need-enum-told-3
-enum-told-3 c = search needs
+    let a = c .before .before .before .before .args in
+    let op : ℕ = c .before .before .key .given .0 .0 in
+    let few = few-so (a .model) op (omega (arith, c .before .known-told .given)) (c .plain-row .result) (c .plain-row .ensures) in
+    rw (c .before .before .key .given .1) (c .plain-row .ensures, few)
 
 returns-2 : tie.Need-returns-2
-returns-2 c = rw (c .enum-told3 .given .1) (c .before .before .before .before .row-of .ensures)
-
-returns-3 : tie.Need-returns-3
-returns-3 c =
-    let found = c .before in
-    let a = found .before .args in
-    kept-in (a .model) (a .op) (found .row-of .result) (found .row-of .ensures) (c .match .keys2)
+returns-2 c =
+    let a = c .before .before .before .before .args in
+    let op : ℕ = c .before .before .key2 .given .0 .0 in
+    let few = few-so (a .model) (256 + op) (omega (arith, c .before .known-told2 .given)) (c .wide-row .result) (c .wide-row .ensures) in
+    rw (c .before .before .key2 .given .1) (c .wide-row .ensures, few)
 
 pub row-in-spec : {M : Type 1} → statement M
 row-in-spec =
     tie.close
     (tie.spec
-    row-of-requires
-    enum-told
-    enum-told-2
-    added-row-requires
+    enum-known-key
+    plain-row-requires
+    enum-known-key-2
+    wide-row-requires
     returns
-    enum-told-3
-    returns-2
-    returns-3)
+    returns-2)

@@ -1,0 +1,79 @@
+-- "The old model's answers are unchanged" (document 02, request 7): what a report in document 01's model answers and writes is what it
+-- would by document 01's cells. proofs/Cells.antt has the proof.
+-- Assumes nothing.
+use Prim.Native.Nat.{ℕ, _-_, _^_, _≤_}
+use mathlib.Core.Path.{_≡_}
+use mathlib.Core.List.{List}
+use lib.Dec.{ltb}
+use lib.ListN.{length, getD}
+use Rattle.basics.specs.Bytes.{AreBytes}
+use Rattle.basics.specs.Choice.{pick}
+use Rattle.leader.specs.declared.Scan.{Scan}
+use Rattle.leader.specs.declared.Scan.the-variants.{Leader, Unmeasured}
+use Rattle.casefile.specs.Parts.{Parts, partsOf}
+use Rattle.casefile.specs.Whole.{caseOf}
+use Rattle.casefile.specs.declared.Case.{Case}
+use Rattle.casefile.specs.declared.Case.the-variants as cases
+use Rattle.cell.specs.declared.Slot.{Slot}
+use Rattle.cell.specs.declared.Slot.the-variants.{Other}
+use Rattle.effects.specs.Lookup.{lookupIn}
+use Rattle.effects.specs.Rows.{rowOf}
+use Rattle.walk.specs.Room.{Roomed, lacks, fits, completed, judged}
+use Rattle.walk.specs.Walk.{done, failed, walk}
+use Rattle.walks.specs.Cells.{documentCells, documentUnpacked}
+use Rattle.trace.specs.declared.Trace.{Trace}
+use Rattle.trace.specs.declared.Trace.the-variants.{NoRoom, Traced}
+use Rattle.fault.specs.Decoding.{decoded}
+use Rattle.fault.specs.declared.Fault.{Fault}
+use Rattle.fault.specs.declared.Fault.the-variants.{Failed, Nothing}
+use Rattle.answer.specs.Answer.{Said, silent, answerBy, outputBy}
+use Rattle.answer.specs.declared.Report.{Report}
+use Rattle.answer.specs.declared.Report.the-variants as report
+use Rattle.report.specs.Report.{scanOf, saidBy, saidOf, reportOf, reportedIn}
+
+-- ---- a report by document 01's cells, as the report of crates/report/specs is by those in use
+
+abbrev pub formerSlot : List ℕ → ℕ → Slot
+formerSlot slots depth = pick (ltb depth (length slots)) (documentUnpacked (getD slots (length slots - 1 - depth) 0)) Other
+
+abbrev pub formerTrace : ℕ → ℕ → Roomed ℕ → Trace
+formerTrace scan depth (lacks index) = NoRoom index
+formerTrace scan depth (fits (failed block index reason)) = Traced scan block Other
+formerTrace scan depth (fits (done slots block)) = Traced scan block (formerSlot slots depth)
+
+abbrev pub formerTraced : Parts → ℕ → ℕ → Scan → Trace
+formerTraced p depth room (Leader leader scan) =
+    formerTrace scan depth
+    (judged room (completed documentCells rowOf (lookupIn (p .members) (p .memberCount)) (p .code) (p .fault) leader)
+    (walk documentCells rowOf (lookupIn (p .members) (p .memberCount)) (p .code) (p .fault) leader))
+formerTraced p depth room (Unmeasured at scan) = Traced scan 0 Other
+
+abbrev pub formerSaidAt : Parts → ℕ → Fault → Said
+formerSaidAt p room Nothing = silent
+formerSaidAt p room (Failed action depth) = saidBy p action (formerTraced p depth room (scanOf p))
+
+abbrev pub formerSaid : Parts → ℕ → Said
+formerSaid p room = formerSaidAt p room (decoded (p .code) (p .members) (p .memberCount) (p .fault))
+
+abbrev pub formerAnswer : List ℕ → ℕ → ℕ → Case → Report
+formerAnswer bytes room outRoom (cases.Parts places) = answerBy (formerSaid (partsOf bytes places) room) outRoom
+formerAnswer bytes room outRoom (cases.Wrong offset) = report.Broken offset
+formerAnswer bytes room outRoom cases.TooLong = report.TooLong
+
+abbrev pub formerOutput : List ℕ → ℕ → List ℕ → Case → List ℕ
+formerOutput bytes room out (cases.Parts places) = outputBy (formerSaid (partsOf bytes places) room) out
+formerOutput bytes room out (cases.Wrong offset) = out
+formerOutput bytes room out cases.TooLong = out
+
+-- ---- the statement
+
+pub record PresentUnmoved : Type 0 where
+  -- of parts whose code has 2^48 bytes at most, with any room
+  pub said : (p : Parts) → AreBytes (p .code) → length (p .code) ≤ 2 ^ 48 → (room : ℕ) → saidOf p room ≡ formerSaid p room
+  -- and so of every case, whatever is lent: the answer, and the output at exit
+  pub answers :
+      (bytes : List ℕ) → AreBytes bytes → (room outRoom : ℕ) →
+      reportOf bytes room outRoom ≡ formerAnswer bytes room outRoom (caseOf bytes)
+  pub outputs :
+      (bytes : List ℕ) → AreBytes bytes → (room : ℕ) (out : List ℕ) →
+      reportedIn bytes room out ≡ formerOutput bytes room out (caseOf bytes)
