@@ -39,7 +39,7 @@ tableBytes code pc = operandsAt pc - pc + 12 + 4 * tableEntries code pc
 unfoldable pub lookupBytes : List ℕ → ℕ → ℕ
 lookupBytes code pc = operandsAt pc - pc + 8 + 8 * lookupPairs code pc
 
--- "`wide` is 6 before `iinc`, else 4."
+-- the bytes of the `wide` at pc
 unfoldable pub wideBytes : List ℕ → ℕ → ℕ
 wideBytes code pc = wideBy (byteAt code (pc + 1))
 

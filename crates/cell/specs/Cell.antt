@@ -1,4 +1,4 @@
--- A cell of the lent stack: 0 when opaque (document 01, "Numbers returned"), else of a load, and "A slot's record must carry locals to
+-- A cell of the lent stack: 0 when opaque (document 01, "Numbers returned"), else that of a load. "A slot's record must carry locals to
 -- 65,535 beside the load index, so the cell becomes 1 + 65,536 * load index + local for every part that reads one" (document 02,
 -- request 7).
 -- Assumes nothing.

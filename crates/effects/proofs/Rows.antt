@@ -7,20 +7,20 @@ use mathlib.Core.Bool.{Bool, true, false}
 use mathlib.Core.Logic.{⊎-elim}
 use mathlib.Core.List.{List, [], _∷_, List·Memᴰ, List·Memᴰ·not-nil, List·Memᴰ·cases-cons}
 use lib.Dec.{T, eqb, ltb, eqb→eq, ltb→lt}
-use borrow.Author.Tests.{ltb-true, ltb-false}
-use Rattle.basics.specs.Bytes.{AreBytes}
-use Rattle.basics.specs.Choice.{pick, both, alike, between}
+use borrow.Author.Tests.{lt-ltb, ltb-true, ltb-false}
+use Rattle.basics.specs.Bytes.{byteAt, AreBytes}
+use Rattle.basics.specs.Choice.{pick, both, alike, oneOf, between}
 use Rattle.basics.proofs.Choice.{chosen}
 use Rattle.basics.proofs.Every.{both-first, both-second, alike-is, every, every-at}
 use Rattle.jvms.specs.Extent.{takes, wideExtent, extentBy, extentAt}
 use Rattle.jvms.specs.Format.{Format, tableswitch, lookupswitch, wide, reserved, formatOf}
 use Rattle.jvms.specs.Format.{fixed as fixedFormat}
 use Rattle.jvms.specs.Stack.{objectref, reference, Form, _⇒_, Local, indexed, far, numbered, does, entryOf, keyAt, keyCount}
-use Rattle.jvms.proofs.Keys.{key-plain, key-below}
+use Rattle.jvms.proofs.Keys.{Keyed, plain, far as behindWide, keyed, key-plain, key-below}
 use Rattle.jvms.proofs.Sizes.{reaches, far-extent}
 use Rattle.fixed.specs.Fixed.{fixedBy, fixedLength, wideBy, keyLength, sizeAt}
 use Rattle.effects.specs.Agreement.{isModelled, hasEffect, within, FormAgrees, formsOf, hasForm, localOf, Details, EffectAgrees}
-use Rattle.effects.specs.Agreement.{Agreeing, ModelAgrees, Sized, ModelSized, documented, ModelsDocumented, added, widens, ModelsAdded}
+use Rattle.effects.specs.Agreement.{Agreeing, ModelAgrees, Sized, ModelSized, documented, ModelsDocumented, added, widens, ModelsAdded, isLoad, ModelsMark, ByOpcode}
 use Rattle.effects.specs.Rows.{Row, unmodelled, opaque, aload, aloadFar, aloadOf, carries, keeps, gets, calls, puts, makes, orRow, rowOf, addedRow, widenedRow, wideRow, fullRowOf}
 use Rattle.effects.specs.declared.Model.the-variants.{Document, Full}
 use Rattle.effects.proofs.Forms.{formFits, form-agrees}
@@ -330,3 +330,54 @@ models-added =
           (every-at (λ k. alike (isModelled (fullRowOf (256 + k))) (widens k)) 256 tt op below);
       extends = extended;
     }
+
+-- aload's forms push loads, and nothing else does
+pub models-mark : ModelsMark
+unfolding rowOf addedRow widenedRow fullRowOf
+models-mark =
+    record {
+      document = λ key below.
+          alike-is (isLoad (rowOf key)) (oneOf (25 ∷ 42 ∷ 43 ∷ 44 ∷ 45 ∷ []) key)
+          (every-at (λ k. alike (isLoad (rowOf k)) (oneOf (25 ∷ 42 ∷ 43 ∷ 44 ∷ 45 ∷ []) k)) keyCount tt key below);
+      full = λ key below.
+          alike-is (isLoad (fullRowOf key)) (oneOf (25 ∷ 42 ∷ 43 ∷ 44 ∷ 45 ∷ 281 ∷ []) key)
+          (every-at (λ k. alike (isLoad (fullRowOf k)) (oneOf (25 ∷ 42 ∷ 43 ∷ 44 ∷ 45 ∷ 281 ∷ []) k)) keyCount tt key below);
+    }
+
+-- ---- document 01's model by the opcode alone
+
+abbrev isNone : Row → Bool
+isNone row = alike (isModelled row) false
+
+none-is : (row : Row) → T (isNone row) → row ≡ unmodelled
+none-is unmodelled t = refl
+none-is (opaque taken given) t = absurd t
+none-is aload t = absurd t
+none-is aloadFar t = absurd t
+none-is (aloadOf local) t = absurd t
+none-is (carries taken places) t = absurd t
+none-is keeps t = absurd t
+none-is (gets taken) t = absurd t
+none-is (calls taken) t = absurd t
+none-is (puts taken) t = absurd t
+none-is makes t = absurd t
+
+none-behind : (op : ℕ) → op < 256 → rowOf (256 + op) ≡ unmodelled
+unfolding rowOf
+none-behind op below = none-is (rowOf (256 + op)) (every-at (λ k. isNone (rowOf (256 + k))) 256 tt op below)
+
+none-alone : rowOf 196 ≡ unmodelled
+unfolding rowOf
+none-alone = refl
+
+pub by-opcode : ByOpcode
+by-opcode code are pc = by-key (keyAt code pc) (keyed code pc)
+  where
+    by-key :
+        (key : ℕ) → Keyed code pc key →
+        (rowOf key ≡ rowOf (byteAt code pc))
+        × (T (isModelled (rowOf (byteAt code pc))) → keyLength key ≡ fixedLength (byteAt code pc))
+    by-key key plain = (refl, λ some. rw (lt-ltb (byteAt code pc) 256 (are pc)))
+    by-key key (behindWide e) =
+        let none : rowOf (byteAt code pc) ≡ unmodelled = ap rowOf e ∙ none-alone in
+        (none-behind (byteAt code (pc + 1)) (are (pc + 1)) ∙ sym none, λ some. absurd (rw none at some))

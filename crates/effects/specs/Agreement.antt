@@ -1,9 +1,10 @@
 -- The rows of both models and document 01's depths against the operands and results of JVMS.
 --
--- The claim (`ModelAgrees`, below): at every key that a model has, an opcode or one behind `wide`, for every member that an instruction may cite, any dimensions and
--- each form of an opcode that has several, the slots that its row takes and gives are those of JVMS's operands and results, and each
--- slot that it carries along is the operand that JVMS puts there. `checkcast` alone is apart: its row keeps the list. And
--- (`DepthsAgree`) the depth of a reference is the number of slots above the operand that JVMS names objectref or arrayref.
+-- The claim (`ModelAgrees`, below): at every key that a model has, an opcode alone or behind `wide`, for every member that an
+-- instruction may cite, any dimensions and each form of an opcode that has several, the slots that its row takes and gives are those of
+-- JVMS's operands and results, and each slot that it carries along is the operand that JVMS puts there. `checkcast` alone is apart: its
+-- row keeps the list. And (`DepthsAgree`) the depth of a reference is the number of slots above the operand that JVMS names objectref
+-- or arrayref.
 --
 -- A row worked out: swap, opcode 95. JVMS 6.5 draws "..., value2, value1 → ..., value1, value2", which is the entry
 --     does (category1 value2 ∷ category1 value1 ∷ [] ⇒ category1 value1 ∷ category1 value2 ∷ [])
@@ -20,13 +21,13 @@ use mathlib.Core.Bool.{Bool, true, false}
 use mathlib.Core.List.{List, [], _∷_, map, List·Memᴰ}
 use lib.Dec.{T, eqb, leb}
 use lib.ListN.{length, getD}
-use Rattle.basics.specs.Bytes.{AreBytes}
+use Rattle.basics.specs.Bytes.{byteAt, AreBytes}
 use Rattle.basics.specs.Choice.{pick, both, oneOf, between}
 use Rattle.jvms.specs.Extent.{takes, extentAt}
 use Rattle.jvms.specs.Machine.{isReference, run, results}
 use Rattle.jvms.specs.Stack.{objectref, Operand, reference, Form, _⇒_, Local, indexed, far, numbered, Entry, unlisted, does, eitherOf, loads, stores, increments, throws}
 use Rattle.jvms.specs.Stack.{Cited, slotsOf, slotsIn, nameOf, entryOf, keyAt, keyCount, operandsOf}
-use Rattle.fixed.specs.Fixed.{keyLength, sizeAt}
+use Rattle.fixed.specs.Fixed.{fixedLength, keyLength, sizeAt}
 use Rattle.effects.specs.Depth.{Rule, none, fixed, reads, writes, invokes, ruleOf}
 use Rattle.effects.specs.Rows.{Row, unmodelled, opaque, aload, aloadFar, aloadOf, carries, keeps, gets, calls, puts, makes, rowOf, fullRowOf, rowsOf}
 use Rattle.effects.specs.declared.Model.{Model}
@@ -145,24 +146,24 @@ localOf (stores l f) = []
 localOf (increments l f) = []
 localOf (throws os) = []
 
--- which local is loaded, that places are those of slots taken, that the opcode cites a field or a method, or has dimensions; of a key
+-- of the row of a key: which local is loaded, that places are those of slots taken, that a field or a method is cited, or dimensions are
 abbrev pub Details : Row → ℕ → Type 0
-Details unmodelled op = Unit {0}
-Details (opaque taken given) op = Unit {0}
-Details aload op = localOf (entryOf op) ≡ indexed ∷ []
-Details aloadFar op = localOf (entryOf op) ≡ far ∷ []
-Details (aloadOf local) op = (localOf (entryOf op) ≡ numbered local ∷ []) × (local < 256)
-Details (carries taken places) op = T (within taken places)
-Details keeps op = Unit {0}
-Details (gets taken) op = T (between 178 181 op)
-Details (calls taken) op = T (between 182 185 op)
-Details (puts taken) op = T (between 178 181 op)
-Details makes op = T (eqb op 197)
+Details unmodelled key = Unit {0}
+Details (opaque taken given) key = Unit {0}
+Details aload key = localOf (entryOf key) ≡ indexed ∷ []
+Details aloadFar key = localOf (entryOf key) ≡ far ∷ []
+Details (aloadOf local) key = (localOf (entryOf key) ≡ numbered local ∷ []) × (local < 256)
+Details (carries taken places) key = T (within taken places)
+Details keeps key = Unit {0}
+Details (gets taken) key = T (between 178 181 key)
+Details (calls taken) key = T (between 182 185 key)
+Details (puts taken) key = T (between 178 181 key)
+Details makes key = T (eqb key 197)
 
-pub record EffectAgrees (op : ℕ) (row : Row) : Type 1 where
-  pub some : T (hasForm (formsOf (entryOf op)))
-  pub each : (form : Form) → List·Memᴰ form (formsOf (entryOf op)) → FormAgrees row form
-  pub details : Details row op
+pub record EffectAgrees (key : ℕ) (row : Row) : Type 1 where
+  pub some : T (hasForm (formsOf (entryOf key)))
+  pub each : (form : Form) → List·Memᴰ form (formsOf (entryOf key)) → FormAgrees row form
+  pub details : Details row key
 
 pub record Agreeing (rows : ℕ → Row) : Type 1 where
   -- every modelled key but that of `checkcast`
@@ -210,12 +211,40 @@ added op =
 abbrev pub widens : ℕ → Bool
 widens op = pick (between 21 25 op) true (pick (between 54 58 op) true (eqb op 132))
 
--- the full model has these and document 01's, "`invokedynamic` still fails", and so does all else; where document 01 models an opcode, its
--- row is the full model's
+-- the full model has document 01's opcodes, those that are added and those behind `wide`; "`invokedynamic` still fails", and so does all
+-- else. Where document 01 models an opcode, its row is the full model's.
 pub record ModelsAdded : Type 0 where
   pub exactly : (op : ℕ) → op < 256 → isModelled (fullRowOf op) ≡ pick (documented op) true (added op)
   pub wide : (op : ℕ) → op < 256 → isModelled (fullRowOf (256 + op)) ≡ widens op
   pub extends : (key : ℕ) → T (isModelled (rowOf key)) → fullRowOf key ≡ rowOf key
+
+-- the row pushes a load
+abbrev pub isLoad : Row → Bool
+isLoad unmodelled = false
+isLoad (opaque taken given) = false
+isLoad aload = true
+isLoad aloadFar = true
+isLoad (aloadOf local) = true
+isLoad (carries taken places) = false
+isLoad keeps = false
+isLoad (gets taken) = false
+isLoad (calls taken) = false
+isLoad (puts taken) = false
+isLoad makes = false
+
+-- "`aload` forms push a slot with local and load index; .. other pushes are opaque"; "`wide aload` marks its slot as `aload` does"
+-- (document 02, request 7)
+pub record ModelsMark : Type 0 where
+  pub document : (key : ℕ) → key < keyCount → isLoad (rowOf key) ≡ oneOf (25 ∷ 42 ∷ 43 ∷ 44 ∷ 45 ∷ []) key
+  pub full : (key : ℕ) → key < keyCount → isLoad (fullRowOf key) ≡ oneOf (25 ∷ 42 ∷ 43 ∷ 44 ∷ 45 ∷ 281 ∷ []) key
+
+-- Document 01's model goes by the opcode alone: at every instruction its row is that of the byte there, and where it models one, so is
+-- the length.
+abbrev pub ByOpcode : Type 0
+ByOpcode =
+    (code : List ℕ) → AreBytes code → (pc : ℕ) →
+    (rowOf (keyAt code pc) ≡ rowOf (byteAt code pc))
+    × (T (isModelled (rowOf (byteAt code pc))) → sizeAt code pc ≡ fixedLength (byteAt code pc))
 
 -- ---- a depth against what JVMS says
 

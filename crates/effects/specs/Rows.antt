@@ -1,5 +1,5 @@
--- What the walk does at an instruction, as a row by its key: by document 01 ("The walk"), and by the full model of document 02, requests
--- 1 and 7. A key is an opcode, or behind `wide` 256 and the opcode there.
+-- What the walk does at an instruction, as a row by its key: by document 01 ("The walk"), and by the full model of document 02,
+-- requests 1 and 7. A key is an opcode, or behind `wide` 256 and the opcode there.
 -- Assumes nothing.
 use Prim.Native.Nat.{ℕ, _-_}
 use mathlib.Core.List.{List, [], _∷_}
@@ -100,8 +100,8 @@ addedRow op =
     (pick (eqb op 197) makes
     unmodelled))))))))))))))))))))
 
--- "accept `wide` before loads (21 to 25), stores (54 to 58) and `iinc`; any other opcode after it fails" (document 02, request 7): by
--- the opcode behind `wide`, and by its key
+-- what the full model adds behind `wide` (document 02, request 7), by the opcode there and by the key; `widens` of Agreement.antt has its
+-- words
 unfoldable pub widenedRow : ℕ → Row
 widenedRow op =
     -- wide lload, wide dload; wide aload; wide iload, wide fload

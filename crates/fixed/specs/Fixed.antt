@@ -1,5 +1,5 @@
--- The length that an opcode alone fixes, or the one that `wide` widens (document 01, "Measuring an instruction"): "Lengths are those
--- of JVMS 6.5".
+-- The length that an opcode alone fixes, and that of `wide` before an opcode (document 01, "Measuring an instruction"): "Lengths are
+-- those of JVMS 6.5".
 -- Assumes nothing.
 use Prim.Native.Nat.{ℕ, _+_, _-_, _<_}
 use mathlib.Core.Path.{_≡_}

@@ -1,6 +1,7 @@
 -- The plain machine of condition 3 (document 01, "The plain machine"), on values of any type, one to a slot. Written from JVMS
 -- 6.5 alone. The stack is a list, bottom first. Locals are a function of every number; nothing above 65,536 is read or written: "The
--- plain machine has locals 0 to 65,536" (document 02, request 7). No instruction throws. One that has no entry or no length is never left, and neither is athrow.
+-- plain machine has locals 0 to 65,536" (document 02, request 7). No instruction throws. One that has no entry or no length is never
+-- left, and neither is athrow.
 -- Assumes nothing.
 use Prim.Native.Nat.{ℕ, zero, suc, _+_, _-_}
 use mathlib.Core.Bool.{Bool, true, false}
@@ -30,7 +31,8 @@ citedAt pool code pc =
       dims = byteAt code (pc + 3);
     }
 
--- "The index is an unsigned byte"; behind `wide` and an opcode it is "(indexbyte1 << 8) | indexbyte2"; or it stands in the opcode's name
+-- "The index is an unsigned byte"; behind `wide` and an opcode it is "(indexbyte1 << 8) | indexbyte2"; or it stands in the opcode's
+-- name
 abbrev pub localAt : List ℕ → ℕ → Local → ℕ
 localAt code pc indexed = byteAt code (pc + 1)
 localAt code pc far = u16At code (pc + 2)

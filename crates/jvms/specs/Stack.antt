@@ -30,7 +30,8 @@ infix 3 _⇒_
 abbrev pub _⇒_ : List Operand → List Operand → Form
 operands ⇒ outcome = record { before = operands; after = outcome }
 
--- which local: by the byte behind the opcode; behind `wide` and an opcode, by the two bytes there; or by the number in the opcode's name
+-- which local: by the byte behind the opcode; behind `wide` and an opcode, by the two bytes there; or by the number in the opcode's
+-- name
 pub data Local : Type 0 where
   indexed far : Local
   numbered : ℕ → Local
@@ -340,7 +341,8 @@ entryIn (e ∷ es) zero = e
 entryIn (e ∷ es) (suc op) = entryIn es op
 
 -- `wide` "modifies the behavior of another instruction", of one that names a local by a byte: "indexbyte1 and indexbyte2 follow the
--- modified opcode and are assembled into a 16-bit unsigned index to a local variable". (JVMS lists `ret` too, which has no entry here.)
+-- modified opcode and are assembled into a 16-bit unsigned index to a local variable". (JVMS lists `ret` too, which has no entry
+-- here.)
 abbrev pub widened : Entry → Entry
 widened unlisted = unlisted
 widened (does f) = unlisted

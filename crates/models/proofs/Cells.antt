@@ -1,5 +1,5 @@
--- A report in document 01's model is what it would be by document 01's cells: the walks go alike, and slots that hold the same give one
--- cause.
+-- A walk and a report in document 01's model are what they would be by document 01's cells: the walks go alike, and slots that hold the
+-- same give one cause.
 -- Assumes nothing.
 use Prim.Native.Nat.{ℕ, _-_, _^_, _≤_, _<_}
 use native.Mathlib.Omega.{arith}
@@ -25,7 +25,9 @@ use Rattle.cell.specs.declared.Slot.the-variants.{Other}
 use Rattle.effects.specs.Lookup.{lookupIn}
 use Rattle.effects.specs.Rows.{rowOf}
 use Rattle.effects.specs.declared.Model.the-variants.{Document}
-use Rattle.walk.specs.Room.{Completed, Roomed, lacks, fits, completed, judged, blockWalkIn}
+use Rattle.walk.specs.Room.{Completed, Roomed, lacks, fits, completed, judged, blockWalk, blockWalkIn}
+use Rattle.walk.specs.Room.{answerOf as walkAnswer}
+use Rattle.walk.specs.declared.Walk.the-variants.{Done}
 use Rattle.walk.specs.Walk.{cells, Walked, done, failed, walk}
 use Rattle.walks.specs.Cells.{documentCells, documentUnpacked, SameSlot}
 use Rattle.walks.specs.Marks.{EndAlike, bothDone, bothFailed}
@@ -38,7 +40,7 @@ use Rattle.fault.specs.declared.Fault.the-variants.{Failed, Nothing}
 use Rattle.answer.specs.Answer.{Said, answerBy, outputBy}
 use Rattle.report.specs.Report.{documentManner, scanOf, tracedFrom, saidBy, saidAt, saidIn, saidOf, answerOf, outputOf, reportIn, reportedBy}
 use Rattle.evidence.proofs.Evidence.{code-bytes}
-use Rattle.models.specs.Cells.{formerSlot, formerTrace, formerTraced, formerSaidAt, formerSaid, formerAnswer, formerOutput, PresentUnmoved}
+use Rattle.models.specs.Cells.{formerWalk, formerSlot, formerTrace, formerTraced, formerSaidAt, formerSaid, formerAnswer, formerOutput, PresentUnmoved}
 
 -- ---- a cause
 
@@ -55,37 +57,54 @@ slot-same {former} {slots} each depth = rw (each-length each) (by-test (ltb dept
         sym (each-at each (length slots - 1 - depth) inside 0 0)
     by-test false e = refl
 
-module _ (scan depth room : ℕ) where
-  end-same :
-      {former walked : Walked ℕ} → EndAlike SameSlot former walked →
-      traceOf scan depth (fits walked) ≡ formerTrace scan depth (fits former)
-  end-same (bothDone {slots} {others} {count} each) = ap (Traced scan count) (slot-same each depth)
-  end-same bothFailed = refl
+end-same :
+    (scan depth : ℕ) {former walked : Walked ℕ} → EndAlike SameSlot former walked →
+    traceOf scan depth (fits walked) ≡ formerTrace scan depth (fits former)
+end-same scan depth (bothDone {slots} {others} {count} each) = ap (Traced scan count) (slot-same each depth)
+end-same scan depth bothFailed = refl
 
-  judged-same :
-      {former walked : Walked ℕ} → EndAlike SameSlot former walked → (cs : List Completed) →
-      traceOf scan depth (judged room cs walked) ≡ formerTrace scan depth (judged room cs former)
-  judged-same alike [] = end-same alike
-  judged-same {former} {walked} alike (c ∷ cs) = by-room (leb (c .height) room) (judged-same alike cs)
+-- ---- an answer
+
+answer-same : {former walked : Walked ℕ} → EndAlike SameSlot former walked → walkAnswer (fits walked) ≡ walkAnswer (fits former)
+answer-same (bothDone {slots} {others} {count} each) = ap (λ (height : ℕ). Done height count) (sym (each-length each))
+answer-same bothFailed = refl
+
+-- ---- and so in any room
+
+module _ {B : Type 0} (now former : Roomed ℕ → B) (none : (index : ℕ) → now (lacks index) ≡ former (lacks index)) (room : ℕ)
+    (w v : Walked ℕ) (ends : now (fits w) ≡ former (fits v)) where
+  judged-same : (cs : List Completed) → now (judged room cs w) ≡ former (judged room cs v)
+  judged-same [] = ends
+  judged-same (c ∷ cs) = by-room (leb (c .height) room) (judged-same cs)
     where
       by-room :
-          (b : Bool) → traceOf scan depth (judged room cs walked) ≡ formerTrace scan depth (judged room cs former) →
-          traceOf scan depth (pick b (judged room cs walked) (lacks (c .index)))
-          ≡ formerTrace scan depth (pick b (judged room cs former) (lacks (c .index)))
+          (b : Bool) → now (judged room cs w) ≡ former (judged room cs v) →
+          now (pick b (judged room cs w) (lacks (c .index))) ≡ former (pick b (judged room cs v) (lacks (c .index)))
       by-room true rest = rest
-      by-room false rest = refl
+      by-room false rest = none (c .index)
+
+module _ (code members : List ℕ) (are : AreBytes code) (short : length code ≤ 2 ^ 48) (count leader fault room : ℕ) where
+  -- what is made of either walk is the same, where it is of its ends
+  walks-same :
+      {B : Type 0} (now former : Roomed ℕ → B) → ((index : ℕ) → now (lacks index) ≡ former (lacks index)) →
+      ((v w : Walked ℕ) → EndAlike SameSlot v w → now (fits w) ≡ former (fits v)) →
+      now (blockWalk code members count leader fault room) ≡ former (formerWalk code members count leader fault room)
+  unfolding blockWalkIn
+  walks-same now former none ends =
+      let lookup = lookupIn members count in
+      let alike = present-walks lookup code are short fault leader in
+      let before : Walked ℕ = walk documentCells rowOf lookup code fault leader in
+      judged-same now former none room (walk cells rowOf lookup code fault leader) before (ends before (walk cells rowOf lookup code fault leader) (alike .0))
+      (completed cells rowOf lookup code fault leader)
+      ∙ ap (λ (cs : List Completed). former (judged room cs before)) (sym (alike .1))
 
 -- ---- parts
 
 module _ (p : Parts) (are : AreBytes (p .code)) (short : length (p .code) ≤ 2 ^ 48) where
   traced-same : (depth room : ℕ) (scan : Scan) → tracedFrom Document scan p depth room ≡ formerTraced p depth room scan
-  unfolding blockWalkIn
   traced-same depth room (Leader leader scan) =
-      let lookup = lookupIn (p .members) (p .memberCount) in
-      let alike = present-walks lookup (p .code) are short (p .fault) leader in
-      judged-same scan depth room (alike .0) (completed cells rowOf lookup (p .code) (p .fault) leader)
-      ∙ ap (λ (cs : List Completed). formerTrace scan depth (judged room cs (walk documentCells rowOf lookup (p .code) (p .fault) leader)))
-      (sym (alike .1))
+      walks-same (p .code) (p .members) are short (p .memberCount) leader (p .fault) room (traceOf scan depth) (formerTrace scan depth)
+      (λ index. refl) (λ v w alike. end-same scan depth alike)
   traced-same depth room (Unmeasured at scan) = refl
 
   said-at : (room : ℕ) (fault : Fault) → saidAt documentManner p room fault ≡ formerSaidAt p room fault
@@ -135,6 +154,8 @@ pub present-unmoved : PresentUnmoved
 unfolding reportIn reportedBy
 present-unmoved =
     record {
+      walks = λ code members are short count leader fault room.
+          walks-same code members are short count leader fault room walkAnswer walkAnswer (λ index. refl) (λ v w alike. answer-same alike);
       said = said-same;
       answers = λ bytes are room outRoom. answers-same bytes are room outRoom (caseOf bytes) refl;
       outputs = λ bytes are room out. outputs-same bytes are room out (caseOf bytes) refl;

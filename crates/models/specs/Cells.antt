@@ -1,5 +1,6 @@
--- "The old model's answers are unchanged" (document 02, request 7): what a report in document 01's model answers and writes is what it
--- would by document 01's cells. proofs/Cells.antt has the proof.
+-- "The old model's answers are unchanged" (document 02, request 7): what a walk in document 01's model answers, and what a report in it
+-- answers and writes, is what it would be by document 01's cells. That this model goes by opcodes alone, as before the request, is
+-- `ByOpcode` of crates/effects/specs/Agreement.antt. proofs/Cells.antt has the proof.
 -- Assumes nothing.
 use Prim.Native.Nat.{ℕ, _-_, _^_, _≤_}
 use mathlib.Core.Path.{_≡_}
@@ -18,7 +19,8 @@ use Rattle.cell.specs.declared.Slot.{Slot}
 use Rattle.cell.specs.declared.Slot.the-variants.{Other}
 use Rattle.effects.specs.Lookup.{lookupIn}
 use Rattle.effects.specs.Rows.{rowOf}
-use Rattle.walk.specs.Room.{Roomed, lacks, fits, completed, judged}
+use Rattle.walk.specs.Room.{Roomed, lacks, fits, completed, judged, blockWalk}
+use Rattle.walk.specs.Room.{answerOf as walkAnswer}
 use Rattle.walk.specs.Walk.{done, failed, walk}
 use Rattle.walks.specs.Cells.{documentCells, documentUnpacked}
 use Rattle.trace.specs.declared.Trace.{Trace}
@@ -31,7 +33,12 @@ use Rattle.answer.specs.declared.Report.{Report}
 use Rattle.answer.specs.declared.Report.the-variants as report
 use Rattle.report.specs.Report.{scanOf, saidBy, saidOf, reportOf, reportedIn}
 
--- ---- a report by document 01's cells, as the report of crates/report/specs is by those in use
+-- ---- a walk and a report by document 01's cells, as those of crates/walk/specs and crates/report/specs are by the cells in use
+
+abbrev pub formerWalk : List ℕ → List ℕ → ℕ → ℕ → ℕ → ℕ → Roomed ℕ
+formerWalk code members count leader fault room =
+    judged room (completed documentCells rowOf (lookupIn members count) code fault leader)
+    (walk documentCells rowOf (lookupIn members count) code fault leader)
 
 abbrev pub formerSlot : List ℕ → ℕ → Slot
 formerSlot slots depth = pick (ltb depth (length slots)) (documentUnpacked (getD slots (length slots - 1 - depth) 0)) Other
@@ -43,9 +50,7 @@ formerTrace scan depth (fits (done slots block)) = Traced scan block (formerSlot
 
 abbrev pub formerTraced : Parts → ℕ → ℕ → Scan → Trace
 formerTraced p depth room (Leader leader scan) =
-    formerTrace scan depth
-    (judged room (completed documentCells rowOf (lookupIn (p .members) (p .memberCount)) (p .code) (p .fault) leader)
-    (walk documentCells rowOf (lookupIn (p .members) (p .memberCount)) (p .code) (p .fault) leader))
+    formerTrace scan depth (formerWalk (p .code) (p .members) (p .memberCount) leader (p .fault) room)
 formerTraced p depth room (Unmeasured at scan) = Traced scan 0 Other
 
 abbrev pub formerSaidAt : Parts → ℕ → Fault → Said
@@ -68,7 +73,11 @@ formerOutput bytes room out cases.TooLong = out
 -- ---- the statement
 
 pub record PresentUnmoved : Type 0 where
-  -- of parts whose code has 2^48 bytes at most, with any room
+  -- a walk alone, over a code of 2^48 bytes at most, with any room: height and count, or where and how it fails
+  pub walks :
+      (code members : List ℕ) → AreBytes code → length code ≤ 2 ^ 48 → (count leader fault room : ℕ) →
+      walkAnswer (blockWalk code members count leader fault room) ≡ walkAnswer (formerWalk code members count leader fault room)
+  -- what is said of parts with such a code
   pub said : (p : Parts) → AreBytes (p .code) → length (p .code) ≤ 2 ^ 48 → (room : ℕ) → saidOf p room ≡ formerSaid p room
   -- and so of every case, whatever is lent: the answer, and the output at exit
   pub answers :

@@ -1,4 +1,4 @@
--- A row takes one slot at most besides those of the member that it cites: one computed test of each table.
+-- A row that takes the slots of the member that it cites takes one more at most: one computed test of each table.
 -- Assumes nothing.
 use Prim.Native.Nat.{ℕ, _<_}
 use mathlib.Core.Path.{_≡_, sym, subst}

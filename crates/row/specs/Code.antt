@@ -32,7 +32,7 @@ rowFrom (Calls takes) = calls takes
 rowFrom (Puts takes) = puts takes
 rowFrom Makes = makes
 
--- besides the slots of the member that is cited, a row takes one at most
+-- a row that takes the slots of the member that it cites takes one more at most
 abbrev pub Few : CodeRow → Type 0
 Few Unmodelled = Unit {0}
 Few (Opaque takes gives) = Unit {0}

@@ -76,7 +76,7 @@ adding = static 6 (0x03 ∷ 0x04 ∷ 0x60 ∷ 0x2a ∷ 0x2b ∷ 0x2c ∷ 0xbe �
 
 -- ---- the cases of document 02, request 7: each faults at an arraylength
 
--- wide aload of the local of two bytes
+-- wide aload of the local that two bytes name, and arraylength
 abbrev pub farLoad : ℕ → ℕ → List ℕ
 farLoad high low = 0xc4 ∷ 0x19 ∷ high ∷ low ∷ 0xbe ∷ []
 

@@ -20,7 +20,8 @@ use Rattle.truth.specs.Translation.{since, HeldWhen, TrueTranslation}
 -- n held when b ran.
 abbrev pub CauseNames : Findings → Pool → Type 1
 CauseNames f pool =
-    (depth b n : ℕ) → depthOf (lookupIn (f .members) (f .memberCount)) (f .code) (f .fault) ≡ at depth → depth < f .height → n < 65536 →
+    (depth b n : ℕ) → depthOf (lookupIn (f .members) (f .memberCount)) (f .code) (f .fault) ≡ at depth → depth < f .height →
+    n < 65536 →
     getD (f .stack) (f .height - 1 - depth) 0 ≡ cellOf b n →
     (Val : Type 0) (opaque : ℕ → ℕ → Val) (entering : List Val) (locals : ℕ → Val) →
     (v : Val) × (target pool (f .code) (since pool (f .code) opaque (f .leader) entering locals (f .count)) ≡ v ∷ [])

@@ -60,8 +60,8 @@ fullWorked =
       stack = 1 ∷ 0 ∷ 0 ∷ 0 ∷ 0 ∷ 0 ∷ [];
     }
 
--- The full model (document 02, request 7), on a local above 255: wide aload 300, aconst_null, wide astore 300, wide iinc 299 by 1, and the
--- fault, arraylength. The cause is local 300 as loaded at 0, though a store to it lies between.
+-- The full model (document 02, request 7), on a local above 255: wide aload 300, aconst_null, wide astore 300, wide iinc 299 by 1, and
+-- the fault, arraylength. The cause is local 300 as loaded at 0, though a store to it lies between.
 abbrev pub farWorked : Findings
 farWorked =
     record {

@@ -1,5 +1,5 @@
--- The walk from a leader to a fault (document 01, "The walk"; document 02, requests 1 and 7), over any way to write slots and any table of
--- rows. It is defined without room; Room.antt judges that.
+-- The walk from a leader to a fault (document 01, "The walk"; document 02, requests 1 and 7), over any way to write slots and any table
+-- of rows. It is defined without room; Room.antt judges that.
 -- Assumes nothing.
 use Prim.Native.Nat.{ℕ, zero, suc, _+_, _-_}
 use mathlib.Core.Bool.{Bool}
@@ -20,7 +20,7 @@ use Rattle.effects.specs.Lookup.{Known, missing, known, Lookup}
 use Rattle.effects.specs.Rows.{Row, unmodelled, opaque, aload, aloadFar, aloadOf, carries, keeps, gets, calls, puts, makes}
 
 -- why a walk fails. A step tests in this order; `overshot` is the walk's own. Dimensions of 0 are `notModelled`, tested where they are
--- not cut; so is a `wide` that nothing follows.
+-- not cut. A `wide` that nothing follows is `notModelled` too.
 pub data Reason : Type 0 where
   pastEnd notModelled cut tooLarge missingMember unreadableParameters tooFew unreadableReturn overshot : Reason
 

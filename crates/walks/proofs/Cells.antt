@@ -1,5 +1,5 @@
--- A walk in document 01's model goes alike by document 01's cells and by those in use: it loads no local above 255, whose cells hold the
--- same by both.
+-- A walk in document 01's model goes alike by document 01's cells and by those in use: it loads no local above 255, and the cells of the
+-- others hold the same by both.
 -- Assumes nothing.
 use Prim.Native.Nat.{ℕ, _+_, _-_, _*_, _/_, _%_, _^_, _≤_, _<_}
 use native.Mathlib.Omega.{arith}

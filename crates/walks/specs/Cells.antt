@@ -1,5 +1,5 @@
--- Document 02, request 7, writes cells by 65,536 where document 01 wrote them by 256, and "The old model's answers are unchanged": a walk
--- in document 01's model goes by both alike. proofs/Cells.antt has the proof.
+-- Document 02, request 7, writes cells by 65,536 where document 01 wrote them by 256, and "The old model's answers are unchanged": a
+-- walk in document 01's model goes by both alike. proofs/Cells.antt has the proof.
 -- Assumes nothing.
 use Prim.Native.Nat.{ℕ, _+_, _-_, _*_, _/_, _%_, _^_, _≤_}
 use mathlib.Core.Path.{_≡_}
@@ -33,8 +33,8 @@ documentUnpacked cell = pick (eqb cell 0) Other (Loaded ((cell - 1) / 256) ((cel
 abbrev pub SameSlot : ℕ → ℕ → Type 0
 SameSlot former cell = documentUnpacked former ≡ unpacked cell
 
--- Both walks end alike, with as many slots that hold the same, and so does every instruction. The code has 2^48 bytes at most: a load
--- further on has a cell by 256 and none by 65,536.
+-- Both walks end alike, with slots that hold the same, and every instruction leaves as many slots by either. The code has 2^48 bytes at
+-- most: from index 2^48 on a load has no cell by 65,536; by 256 it has one up to 2^56.
 abbrev pub PresentWalks : Type 0
 PresentWalks =
     (lookup : Lookup) (code : List ℕ) → AreBytes code → length code ≤ 2 ^ 48 → (fault leader : ℕ) →
