@@ -16,7 +16,7 @@ use Rattle.jvms.specs.Extent.{takes, wideExtent, extentBy, extentAt}
 use Rattle.jvms.specs.Format.{Format, tableswitch, lookupswitch, wide, reserved, formatOf}
 use Rattle.jvms.specs.Format.{fixed as fixedFormat}
 use Rattle.jvms.specs.Stack.{objectref, reference, Form, _⇒_, Local, indexed, far, numbered, does, entryOf, keyAt, keyCount}
-use Rattle.jvms.proofs.Keys.{Keyed, plain, far as behindWide, keyed, key-plain, key-below}
+use Rattle.jvms.proofs.Keys.{Keyed, plain, behindWide, keyed, key-plain, key-below}
 use Rattle.jvms.proofs.Sizes.{reaches, far-extent}
 use Rattle.fixed.specs.Fixed.{fixedBy, fixedLength, wideBy, keyLength, sizeAt}
 use Rattle.effects.specs.Agreement.{isModelled, hasEffect, within, FormAgrees, formsOf, hasForm, localOf, Details, EffectAgrees}
@@ -362,7 +362,7 @@ none-is (calls taken) t = absurd t
 none-is (puts taken) t = absurd t
 none-is makes t = absurd t
 
-none-behind : (op : ℕ) → op < 256 → rowOf (256 + op) ≡ unmodelled
+pub none-behind : (op : ℕ) → op < 256 → rowOf (256 + op) ≡ unmodelled
 unfolding rowOf
 none-behind op below = none-is (rowOf (256 + op)) (every-at (λ k. isNone (rowOf (256 + k))) 256 tt op below)
 

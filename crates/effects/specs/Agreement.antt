@@ -146,7 +146,8 @@ localOf (stores l f) = []
 localOf (increments l f) = []
 localOf (throws os) = []
 
--- of the row of a key: which local is loaded, that places are those of slots taken, that a field or a method is cited, or dimensions are
+-- of the row of a key: which local is loaded, that places are those of slots taken, that a field or a method is cited, or that there are
+-- dimensions
 abbrev pub Details : Row → ℕ → Type 0
 Details unmodelled key = Unit {0}
 Details (opaque taken given) key = Unit {0}

@@ -4,15 +4,15 @@
 use Prim.Native.Nat.{ℕ, _+_}
 use mathlib.Core.Path.{_≡_, refl, _∙_, ap}
 use mathlib.Core.Bool.{Bool, true, false}
-use mathlib.Core.List.{List, _++_, append-nil}
+use mathlib.Core.List.{List, [], _++_, append-nil}
 use lib.Dec.{T}
 use lib.ListN.{take}
 use Rattle.basics.specs.Bytes.{byteAt, u16At}
 use Rattle.basics.specs.Choice.{pick}
 use Rattle.basics.proofs.Choice.{chosen}
 use Rattle.jvms.specs.Laws.{writesLocals, isListed, WroteOne}
-use Rattle.jvms.specs.Machine.{Pool, citedAt, State, below, topmost, perform, next}
-use Rattle.jvms.specs.Stack.{Entry, unlisted, does, eitherOf, loads, stores, increments, throws, Cited, entries, keyAt, entryOf, entryAt}
+use Rattle.jvms.specs.Machine.{Pool, citedAt, localAt, State, below, topmost, perform, next}
+use Rattle.jvms.specs.Stack.{_⇒_, Local, indexed, far, Entry, unlisted, does, eitherOf, loads, stores, increments, throws, Cited, entries, keyAt, entryOf, entryAt}
 use Rattle.jvms.proofs.Entries.{every-entry}
 use Rattle.jvms.proofs.Slots.{below-none, put-back, wrote-one}
 
@@ -56,23 +56,25 @@ module _ {Val : Type 0} where
     checkcast-stack =
         ap (λ (r : List Val). below 1 (st .stack) ++ r) (append-nil (take 1 (topmost 1 (st .stack)))) ∙ put-back 1 (st .stack)
 
-    iinc-stack : perform cited code own st (entryOf 132) .stack ≡ st .stack
-    unfolding entries entryOf
-    iinc-stack = append-nil (below 0 (st .stack)) ∙ below-none (st .stack)
+    -- iinc of a local, alone or behind `wide`: the stack stays, and the local has the result
+    abbrev Increments : Entry → Local → Type 0
+    Increments e l =
+        (perform cited code own st e .stack ≡ st .stack)
+        × WroteOne (st .locals) (perform cited code own st e .locals) (localAt code (st .pc) l) (own 0)
 
-    iinc-locals :
-        WroteOne (st .locals) (perform cited code own st (entryOf 132) .locals) (byteAt code (st .pc + 1)) (own 0)
-    unfolding entries entryOf
-    iinc-locals = wrote-one (st .locals) (byteAt code (st .pc + 1)) (own 0)
+    incremented : (l : Local) → Increments (increments l ([] ⇒ [])) l
+    incremented l = (
+      append-nil (below 0 (st .stack)) ∙ below-none (st .stack),
+      wrote-one (st .locals) (localAt code (st .pc) l) (own 0),
+    )
 
-    wide-iinc-stack : perform cited code own st (entryOf 388) .stack ≡ st .stack
+    iinc-done : Increments (entryOf 132) indexed
     unfolding entries entryOf
-    wide-iinc-stack = append-nil (below 0 (st .stack)) ∙ below-none (st .stack)
+    iinc-done = incremented indexed
 
-    wide-iinc-locals :
-        WroteOne (st .locals) (perform cited code own st (entryOf 388) .locals) (u16At code (st .pc + 2)) (own 0)
+    wide-iinc-done : Increments (entryOf 388) far
     unfolding entries entryOf
-    wide-iinc-locals = wrote-one (st .locals) (u16At code (st .pc + 2)) (own 0)
+    wide-iinc-done = incremented far
 
     athrow-state : perform cited code own st (entryOf 191) ≡ st
     unfolding entries entryOf
@@ -83,17 +85,13 @@ module _ {Val : Type 0} where
         keyAt code (st .pc) ≡ 132 →
         (next pool code opaque st .stack ≡ st .stack)
         × WroteOne (st .locals) (next pool code opaque st .locals) (byteAt code (st .pc + 1)) (opaque (st .pc) 0)
-    iinc-writes e =
-        let cited = citedAt pool code (st .pc) in
-        rw e (iinc-stack cited code (opaque (st .pc)) st, iinc-locals cited code (opaque (st .pc)) st)
+    iinc-writes e = rw e (iinc-done (citedAt pool code (st .pc)) code (opaque (st .pc)) st)
 
     pub wide-iinc-writes :
         keyAt code (st .pc) ≡ 388 →
         (next pool code opaque st .stack ≡ st .stack)
         × WroteOne (st .locals) (next pool code opaque st .locals) (u16At code (st .pc + 2)) (opaque (st .pc) 0)
-    wide-iinc-writes e =
-        let cited = citedAt pool code (st .pc) in
-        rw e (wide-iinc-stack cited code (opaque (st .pc)) st, wide-iinc-locals cited code (opaque (st .pc)) st)
+    wide-iinc-writes e = rw e (wide-iinc-done (citedAt pool code (st .pc)) code (opaque (st .pc)) st)
 
     pub athrow-stays : keyAt code (st .pc) ≡ 191 → next pool code opaque st ≡ st
     athrow-stays e = rw e (athrow-state (citedAt pool code (st .pc)) code (opaque (st .pc)) st)

@@ -25,13 +25,13 @@ module _ (code : List ℕ) (pc : ℕ) where
   -- it is the opcode, or behind `wide` 256 and the opcode there
   pub data Keyed : ℕ → Type 0 where
     plain : Keyed (byteAt code pc)
-    far : byteAt code pc ≡ 196 → Keyed (256 + byteAt code (pc + 1))
+    behindWide : byteAt code pc ≡ 196 → Keyed (256 + byteAt code (pc + 1))
 
   pub keyed : Keyed (keyAt code pc)
   keyed = by-wide (eqb (byteAt code pc) 196) refl
     where
       by-end : (b : Bool) → byteAt code pc ≡ 196 → Keyed (pick b (256 + byteAt code (pc + 1)) 196)
-      by-end true e = far e
+      by-end true e = behindWide e
       by-end false e = subst Keyed e plain
 
       by-wide :
@@ -46,7 +46,7 @@ module _ (code : List ℕ) (pc : ℕ) where
     where
       by-key : (key : ℕ) → Keyed key → key < 256 → byteAt code pc ≡ key
       by-key key plain small = refl
-      by-key key (far e) small = absurd (omega arith)
+      by-key key (behindWide e) small = absurd (omega arith)
 
   -- from 256 on the instruction is a `wide`, and 256 less is the opcode behind it
   pub key-far : 256 ≤ keyAt code pc → AreBytes code → (byteAt code pc ≡ 196) × (keyAt code pc ≡ 256 + byteAt code (pc + 1))
@@ -54,11 +54,11 @@ module _ (code : List ℕ) (pc : ℕ) where
     where
       by-key : (key : ℕ) → Keyed key → 256 ≤ key → (byteAt code pc ≡ 196) × (key ≡ 256 + byteAt code (pc + 1))
       by-key key plain large = absurd (omega (arith, are pc))
-      by-key key (far e) large = (e, refl)
+      by-key key (behindWide e) large = (e, refl)
 
 pub key-below : (code : List ℕ) → AreBytes code → (pc : ℕ) → keyAt code pc < keyCount
 key-below code are pc = by-key (keyAt code pc) (keyed code pc)
   where
     by-key : (key : ℕ) → Keyed code pc key → key < keyCount
     by-key key plain = omega (arith, are pc)
-    by-key key (far e) = omega (arith, are (pc + 1))
+    by-key key (behindWide e) = omega (arith, are (pc + 1))

@@ -8,7 +8,7 @@ use mathlib.Core.Bool.{Bool, true, false}
 use mathlib.Core.List.{List, [], _∷_}
 use lib.Dec.{leb, ltb}
 use lib.ListN.{length, getD, drop, length-take, length-drop}
-use borrow.Author.Tests.{ltb-true, ltb-false}
+use borrow.Author.Tests.{ltb-true}
 use Rattle.basics.specs.Bytes.{AreBytes}
 use Rattle.basics.specs.Choice.{pick}
 use Rattle.basics.specs.Each.{Each}
@@ -16,10 +16,11 @@ use Rattle.basics.proofs.Each.{each-length, each-at}
 use Rattle.leader.specs.declared.Scan.{Scan}
 use Rattle.leader.specs.declared.Scan.the-variants.{Leader, Unmeasured}
 use Rattle.casefile.specs.Parts.{Parts, partsOf}
-use Rattle.casefile.specs.Whole.{longest, placesIn, caseOf}
+use Rattle.casefile.specs.Whole.{longest, caseOf}
 use Rattle.casefile.specs.declared.Case.{Case}
 use Rattle.casefile.specs.declared.Case.the-variants as cases
 use Rattle.casefile.specs.declared.Places.{Places}
+use Rattle.cases.proofs.Declared.{fits-of}
 use Rattle.cell.specs.Cell.{unpacked}
 use Rattle.cell.specs.declared.Slot.the-variants.{Other}
 use Rattle.effects.specs.Lookup.{lookupIn}
@@ -94,7 +95,8 @@ module _ (code members : List ℕ) (are : AreBytes code) (short : length code �
       let lookup = lookupIn members count in
       let alike = present-walks lookup code are short fault leader in
       let before : Walked ℕ = walk documentCells rowOf lookup code fault leader in
-      judged-same now former none room (walk cells rowOf lookup code fault leader) before (ends before (walk cells rowOf lookup code fault leader) (alike .0))
+      let present : Walked ℕ = walk cells rowOf lookup code fault leader in
+      judged-same now former none room present before (ends before present (alike .0))
       (completed cells rowOf lookup code fault leader)
       ∙ ap (λ (cs : List Completed). former (judged room cs before)) (sym (alike .1))
 
@@ -120,14 +122,7 @@ module _ (p : Parts) (are : AreBytes (p .code)) (short : length (p .code) ≤ 2 
 -- the code of a case is no longer than the case
 module _ (bytes : List ℕ) (are : AreBytes bytes) (places : Places) (reads : caseOf bytes ≡ cases.Parts places) where
   few-bytes : length bytes ≤ longest
-  unfolding caseOf
-  few-bytes = by-test (ltb longest (length bytes)) refl reads
-    where
-      by-test :
-          (b : Bool) → ltb longest (length bytes) ≡ b → pick b cases.TooLong (placesIn bytes) ≡ cases.Parts places →
-          length bytes ≤ longest
-      by-test true t e = let z : _≡_ {A = ℕ} 0 1 = cc in absurd (omega arith)
-      by-test false t e = ltb-false longest (length bytes) t
+  few-bytes = fits-of bytes (cases.Parts places) (λ e. let z : _≡_ {A = ℕ} 0 1 = cc in absurd (omega arith)) reads .0
 
   short-code : length (partsOf bytes places .code) ≤ 2 ^ 48
   unfolding partsOf

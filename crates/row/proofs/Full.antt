@@ -12,6 +12,7 @@ use Rattle.effects.specs.Rows.{Row, unmodelled, opaque, aload, aloadFar, aloadO
 use Rattle.effects.specs.Rows.{orRow, rowOf, addedRow, widenedRow, wideRow, fullRowOf, rowsOf}
 use Rattle.effects.specs.declared.Model.{Model}
 use Rattle.effects.specs.declared.Model.the-variants.{Document, Full}
+use Rattle.effects.proofs.Rows.{none-behind}
 use Rattle.row.specs.Code.{rowFrom}
 use Rattle.row.specs.declared.Row.{Row as CodeRow}
 use Rattle.row.specs.declared.Row.the-variants.{Unmodelled, Opaque, Aload, AloadFar, AloadOf, Copies, Swap, Keeps, Gets, Calls, Puts, Makes}
@@ -54,7 +55,9 @@ or-none makes = refl
 pub full-added : (op : ℕ) → op < 256 → (row : CodeRow) → rowFrom row ≡ rowOf op → row ≡ Unmodelled → addedRow op ≡ fullRowOf op
 unfolding fullRowOf
 full-added op below row found e =
-    sym (or-none (addedRow op)) ∙ rw (lt-ltb op 256 below) (ap (λ (r : Row). orRow r (orRow (addedRow op) unmodelled)) (ap rowFrom (sym e) ∙ found))
+    sym (or-none (addedRow op))
+    ∙ rw (lt-ltb op 256 below)
+    (ap (λ (r : Row). orRow r (orRow (addedRow op) unmodelled)) (ap rowFrom (sym e) ∙ found))
 
 pub kept-in :
     (model : Model) (op : ℕ) (row : CodeRow) → rowFrom row ≡ rowOf op → OneOf someRow (tagOf the-type row) →
@@ -67,12 +70,7 @@ kept-in Full op row found o =
 
 -- ---- an opcode behind `wide`
 
--- document 01 models none
-pub wide-document : (op : ℕ) → op < 256 → unmodelled ≡ rowOf (256 + op)
-unfolding rowOf
-wide-document op below = all-have rowOf (λ key. unmodelled) 256 256 tt (256 + op) (omega arith) (omega arith)
-
--- and request 1 adds none
+-- document 01 models none (`none-behind` of effects), and request 1 adds none
 wide-added : (op : ℕ) → op < 256 → unmodelled ≡ addedRow (256 + op)
 unfolding addedRow
 wide-added op below = all-have addedRow (λ key. unmodelled) 256 256 tt (256 + op) (omega arith) (omega arith)
@@ -81,4 +79,4 @@ pub wide-full : (op : ℕ) → op < 256 → widenedRow op ≡ fullRowOf (256 + o
 unfolding fullRowOf
 wide-full op below =
     let less : 256 + op - 256 ≡ op = omega arith in
-    rw (← wide-document op below, ← wide-added op below, le-ltb (256 + op) 256 (omega arith), less)
+    rw (none-behind op below, ← wide-added op below, le-ltb (256 + op) 256 (omega arith), less)

@@ -35,7 +35,7 @@ use Rattle.effects.proofs.Rows.{whereAsked, asked}
 use Rattle.walk.specs.Room.{completedFrom, completed, fits, blockWalk, blockWalkIn, answerOf, cellsOf}
 use Rattle.walk.specs.Walk.{done, step, walkFrom, walk}
 use Rattle.truth.specs.Condition.{Described}
-use Rattle.truth.specs.Example.{members, pool, worked, fullWorked, farWorked, PremisesMet, NamedRightly, BeyondDocument, BeyondNarrow}
+use Rattle.truth.specs.Example.{members, pool, worked, fullWorked, farWorked, PremisesMet, NamedRightly, BeyondDocument}
 use Rattle.truth.proofs.Cause.{cause-true}
 
 -- ---- the members
@@ -161,7 +161,7 @@ full-deep = refl
 pub full-named-rightly : NamedRightly fullWorked 0
 full-named-rightly = cause-true fullWorked pool full-premises-met 2 0 0 full-deep (lit< tt) (lit< tt) refl
 
-pub beyond-document : BeyondDocument
+pub beyond-document : BeyondDocument fullWorked 6
 unfolding blockWalkIn completed completedFrom walk walkFrom step rowOf fixedLength formatOf u16At
 beyond-document = refl
 
@@ -196,6 +196,6 @@ far-deep = refl
 pub far-named-rightly : NamedRightly farWorked 300
 far-named-rightly = cause-true farWorked pool far-premises-met 0 0 300 far-deep (lit< tt) (lit< tt) refl
 
-pub beyond-narrow : BeyondNarrow
+pub far-beyond-document : BeyondDocument farWorked 0
 unfolding blockWalkIn completed completedFrom walk walkFrom step rowOf fixedLength formatOf
-beyond-narrow = refl
+far-beyond-document = refl

@@ -3,6 +3,7 @@
 use Prim.Native.Nat.{ℕ}
 use mathlib.Core.Path.{_≡_}
 use mathlib.Core.List.{List, [], _∷_}
+use lib.ListN.{length}
 use Rattle.jvms.specs.Descriptor.{long, base, class, typed}
 use Rattle.jvms.specs.Machine.{Pool, target}
 use Rattle.effects.specs.declared.Model.the-variants.{Document, Full}
@@ -87,9 +88,8 @@ NamedRightly f local =
     (v : Val) × (target pool (f .code) (since pool (f .code) opaque 0 entering locals (f .count)) ≡ v ∷ [])
     × HeldWhen (since pool (f .code) opaque 0 entering locals) (f .count) 0 local v
 
--- document 01's model has no name for the second and the third: its walk fails at the product, and at `wide`
-abbrev pub BeyondDocument : Type 0
-BeyondDocument = answerOf (blockWalk (fullWorked .code) members 2 0 11 6) ≡ Failed 6
-
-abbrev pub BeyondNarrow : Type 0
-BeyondNarrow = answerOf (blockWalk (farWorked .code) members 2 0 15 2) ≡ Failed 0
+-- document 01's model has no name for the second and the third: its walk fails after so many instructions, at the product and at the
+-- first `wide`
+abbrev pub BeyondDocument : Findings → ℕ → Type 0
+BeyondDocument f count =
+    answerOf (blockWalk (f .code) (f .members) (f .memberCount) (f .leader) (f .fault) (length (f .stack))) ≡ Failed count

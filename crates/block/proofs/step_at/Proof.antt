@@ -1,7 +1,7 @@
 -- `block::step_at` meets its contract. A case on how the effect was laid into the cells.
 -- Assumes nothing.
-use native.Mathlib.Omega.{arith}
 use Prim.Native.Nat.{ℕ}
+use native.Mathlib.Omega.{arith}
 use mathlib.Core.Path.{_≡_, _∙_, ap, ap₂}
 use lib.ListN.{take}
 use borrow.Author.Needs.{needs}

@@ -24,7 +24,9 @@ returns c =
     let none = c .before .before .before in
     let found = none .before .before in
     rw (c .before .enum-told2 .given .1)
-    (c .added-row .ensures ∙ full-added (found .before .args .op) (omega (arith, found .before .fits .op)) _ (found .row-of .ensures) (none .enum-told .given .1))
+    (c .added-row .ensures
+    ∙ full-added (found .before .args .op) (omega (arith, found .before .fits .op)) _ (found .row-of .ensures)
+    (none .enum-told .given .1))
 
 enum-told-3 : tie.Need-enum-told-3
 enum-told-3 c = search needs

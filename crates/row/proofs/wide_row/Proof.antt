@@ -1,9 +1,10 @@
 -- `row::wide_row` meets its contract. A case on the model.
 -- Assumes nothing.
 use native.Mathlib.Omega.{arith}
-use mathlib.Core.Path.{_∙_}
+use mathlib.Core.Path.{_∙_, sym}
 use borrow.Author.Needs.{needs}
-use Rattle.row.proofs.Full.{wide-document, wide-full}
+use Rattle.effects.proofs.Rows.{none-behind}
+use Rattle.row.proofs.Full.{wide-full}
 use Rattle.row.proofs.wide_row.Statement.{statement}
 use Rattle.row.proofs.wide_row.Tie as tie
 
@@ -13,7 +14,7 @@ enum-told c = search needs
 returns : tie.Need-returns
 returns c =
     let start = c .before .before in
-    rw (c .enum-told .given .1) (wide-document (start .args .op) (omega (arith, start .fits .op)))
+    rw (c .enum-told .given .1) (sym (none-behind (start .args .op) (omega (arith, start .fits .op))))
 
 enum-told-2 : tie.Need-enum-told-2
 enum-told-2 c = search needs
