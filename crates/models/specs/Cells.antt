@@ -73,7 +73,8 @@ formerOutput bytes room out cases.TooLong = out
 -- ---- the statement
 
 pub record PresentUnmoved : Type 0 where
-  -- a walk alone, over a code of 2^48 bytes at most, with any room: height and count, or where and how it fails
+  -- what a walk alone answers, over a code of 2^48 bytes at most, with any room: height and count, the count where it fails, the index
+  -- where it lacks room
   pub walks :
       (code members : List ℕ) → AreBytes code → length code ≤ 2 ^ 48 → (count leader fault room : ℕ) →
       walkAnswer (blockWalk code members count leader fault room) ≡ walkAnswer (formerWalk code members count leader fault room)
