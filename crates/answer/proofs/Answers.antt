@@ -10,7 +10,7 @@ use Rattle.basics.proofs.Outcome.{one-outcome}
 use Rattle.answer.specs.Answers.{NumberedInjective}
 use Rattle.answer.specs.Answer.{Said, Delivered, numbered}
 use Rattle.answer.specs.declared.Report.{Report}
-use Rattle.answer.specs.declared.Report.the-variants.{Message, NoMessage, Broken, NoRoom, NoOutput, TooLong}
+use Rattle.answer.specs.declared.Report.the-variants.{Message, NoMessage, Broken, NoRoom, NoOutput, TooLong, NoWording}
 
 -- the answer with these numbers
 answered : List ℕ → Report
@@ -19,7 +19,8 @@ answered numbers =
     (pick (eqb (getD numbers 0 0) 1) NoMessage
     (pick (eqb (getD numbers 0 0) 2) (Broken (getD numbers 1 0))
     (pick (eqb (getD numbers 0 0) 3) (NoRoom (getD numbers 1 0))
-    (pick (eqb (getD numbers 0 0) 4) (NoOutput (getD numbers 1 0)) TooLong))))
+    (pick (eqb (getD numbers 0 0) 4) (NoOutput (getD numbers 1 0))
+    (pick (eqb (getD numbers 0 0) 5) TooLong NoWording)))))
 
 read-back : (answer : Report) → answered (numbered answer) ≡ answer
 unfolding numbered answered
@@ -29,6 +30,7 @@ read-back (Broken offset) = refl
 read-back (NoRoom index) = refl
 read-back (NoOutput size) = refl
 read-back TooLong = refl
+read-back NoWording = refl
 
 pub numbered-injective : NumberedInjective
 numbered-injective one another e = sym (read-back one) ∙ ap answered e ∙ read-back another

@@ -46,7 +46,7 @@ pub record Delivered (what : Said) (out : List ℕ) (answer : Report) (left : Li
   pub answers : answer ≡ answerBy what (length out)
   pub leaves : left ≡ outputBy what out
 
--- document 01's number of an answer, and what it carries
+-- document 01's number of an answer, and what it carries; 11 is document 02's (request 11)
 unfoldable pub numbered : Report → List ℕ
 numbered (report.Message size kind scan block) = 0 ∷ size ∷ kind ∷ scan ∷ block ∷ []
 numbered report.NoMessage = 1 ∷ []
@@ -54,3 +54,4 @@ numbered (report.Broken offset) = 2 ∷ offset ∷ []
 numbered (report.NoRoom index) = 3 ∷ index ∷ []
 numbered (report.NoOutput size) = 4 ∷ size ∷ []
 numbered report.TooLong = 5 ∷ []
+numbered report.NoWording = 11 ∷ []

@@ -1,12 +1,13 @@
-// What a report answers (document 01, "Numbers returned"), and how a message reaches the lent output.
+// What a report answers (document 01, "Numbers returned"; document 02, request 11), and how a message reaches the lent output.
 use cell::Slot;
 use fault::Action;
 use message::put_message_at;
+use words::Wording;
 ghost use mathlib.Core.Path.{_≡_};
 ghost use Rattle.message.specs.Message.{messageText};
 ghost use Rattle.answer.specs.Answer.{kindOf, said, Delivered};
 
-// What a report answers, by document 01's numbers 0 to 5.
+// What a report answers, by document 01's numbers 0 to 5 and document 02's 11.
 pub enum Report {
     Message {
         length: usize,
@@ -25,6 +26,7 @@ pub enum Report {
         needed: usize,
     },
     TooLong,
+    NoWording,
 }
 
 // The kind of a message: 1 for the action alone, 2 for the action and the cause.
@@ -37,9 +39,10 @@ fn kind_of(cause: Slot) -> usize
     }
 }
 
-// Writes the message where the output has room for all of it. Its length is that of writing it to no output.
+// Writes the message in a wording where the output has room for all of it. Its length is that of writing it to no output.
 pub fn write_message(
     out: &mut [u8],
+    wording: Wording,
     members: &[u8],
     member_count: usize,
     action: Action,
@@ -52,7 +55,7 @@ pub fn write_message(
     block: usize,
 ) -> Report
     ensures { λ r. ⌜ Delivered
-        (said (messageText (now (members .entry)) «member_count» action cause (now (records .entry)) «record_count»
+        (said (messageText wording (now (members .entry)) «member_count» action cause (now (records .entry)) «record_count»
         (now (signature .entry)) instance) (kindOf cause) scan block)
         (now (out .entry)) r (now (out .exit)) ⌝ }
 {
@@ -60,6 +63,7 @@ pub fn write_message(
     let needed = put_message_at(
         &mut none,
         0,
+        wording,
         members,
         member_count,
         action,
@@ -75,6 +79,7 @@ pub fn write_message(
     put_message_at(
         out,
         0,
+        wording,
         members,
         member_count,
         action,

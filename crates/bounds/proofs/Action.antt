@@ -4,7 +4,7 @@ use Prim.Native.Nat.{ℕ, _+_, _*_, _≤_}
 use native.Mathlib.Nat.{mul-le-mul}
 use native.Mathlib.Omega.{arith}
 use mathlib.Core.Bool.{Bool}
-use mathlib.Core.List.{List, [], _∷_, _++_}
+use mathlib.Core.List.{List, _++_}
 use lib.Dec.{lit≤}
 use lib.ListN.{length, length-append}
 use Rattle.basics.specs.Ascii.{ascii}
@@ -20,7 +20,9 @@ use Rattle.fault.specs.declared.Action.{Action}
 use Rattle.fault.specs.declared.Action.the-variants.{ReadField, AssignField, Invoke, LoadArray, StoreArray, ReadLength, ThrowException, EnterBlock, ExitBlock}
 use Rattle.action.specs.Action.{actionText}
 use Rattle.message.specs.Message.{causeText}
-use Rattle.words.specs.Words.{elementText, quoted, methodText, invokeText, arrayText}
+use Rattle.words.specs.Words.{elementTexts, elementText, quoted, methodText, invokeText, arrayText}
+use Rattle.words.specs.declared.Wording.{Wording}
+use Rattle.words.specs.declared.Wording.the-variants.{Byte, ByteBoolean}
 use Rattle.bounds.proofs.Names.{widest, class-within, parameters-within}
 use Rattle.bounds.proofs.Texts.{Within, none-within, entry-within, text-within, found-within, local-within}
 
@@ -37,18 +39,19 @@ quoted-within words name short =
     let opened = words ++ mark in
     omega (arith, short, length-append (opened ++ name) mark, length-append opened name, length-append words mark)
 
-element-within : (element : ℕ) → Within 6 (elementText element)
+element-within : (wording : Wording) (element : ℕ) → Within 12 (elementText wording element)
 unfolding elementText
-element-within element =
-    entry-within 6
-    (ascii "int" ∷ ascii "long" ∷ ascii "float" ∷ ascii "double" ∷ ascii "object" ∷ ascii "byte" ∷ ascii "char" ∷ [])
-    (ascii "short") tt (lit≤ tt) element
+element-within wording element = by-wording wording
+  where
+    by-wording : (w : Wording) → Within 12 (elementText w element)
+    by-wording Byte = entry-within 12 (elementTexts Byte) (ascii "short") tt (lit≤ tt) element
+    by-wording ByteBoolean = entry-within 12 (elementTexts ByteBoolean) (ascii "short") tt (lit≤ tt) element
 
-array-within : (words : List ℕ) (element : ℕ) → Within 20 words → Within 32 (arrayText words element)
+array-within : (wording : Wording) (words : List ℕ) (element : ℕ) → Within 20 words → Within 38 (arrayText wording words element)
 unfolding arrayText
-array-within words element short =
-    let name = elementText element in
-    omega (arith, short, element-within element, length-append (words ++ name) (ascii " array"), length-append words name)
+array-within wording words element short =
+    let name = elementText wording element in
+    omega (arith, short, element-within wording element, length-append (words ++ name) (ascii " array"), length-append words name)
 
 invoke-within : (texts : List ℕ) → Within longest texts → Within (much + 2 * longest + 30) (invokeText texts)
 unfolding invokeText methodText classOf nameOf descriptorOf
@@ -99,23 +102,23 @@ field-within members count index words brief short =
     )
 
 pub action-within :
-    (members : List ℕ) (count : ℕ) (action : Action) → Within longest members →
-    Within (much + 2 * longest + 30) (actionText members count action)
+    (wording : Wording) (members : List ℕ) (count : ℕ) (action : Action) → Within longest members →
+    Within (much + 2 * longest + 30) (actionText wording members count action)
 unfolding actionText
-action-within members count (ReadField index) short =
+action-within wording members count (ReadField index) short =
     field-within members count index (ascii "Cannot read field ") (lit≤ tt) short
-action-within members count (AssignField index) short =
+action-within wording members count (AssignField index) short =
     field-within members count index (ascii "Cannot assign field ") (lit≤ tt) short
-action-within members count (Invoke index) short =
+action-within wording members count (Invoke index) short =
     invoke-within (memberFound members index 1 count 0 0) (omega (arith, short, found-within members index 1 count 0 0))
-action-within members count (LoadArray element) short =
-    omega (arith, array-within (ascii "Cannot load from ") element (lit≤ tt))
-action-within members count (StoreArray element) short =
-    omega (arith, array-within (ascii "Cannot store to ") element (lit≤ tt))
-action-within members count ReadLength short = lit≤ tt
-action-within members count ThrowException short = lit≤ tt
-action-within members count EnterBlock short = lit≤ tt
-action-within members count ExitBlock short = lit≤ tt
+action-within wording members count (LoadArray element) short =
+    omega (arith, array-within wording (ascii "Cannot load from ") element (lit≤ tt))
+action-within wording members count (StoreArray element) short =
+    omega (arith, array-within wording (ascii "Cannot store to ") element (lit≤ tt))
+action-within wording members count ReadLength short = lit≤ tt
+action-within wording members count ThrowException short = lit≤ tt
+action-within wording members count EnterBlock short = lit≤ tt
+action-within wording members count ExitBlock short = lit≤ tt
 
 -- ---- the cause
 

@@ -168,7 +168,7 @@ module _ (manner : Manner) (p : Parts) (laid : LaidOut p) (room : ℕ) where
       by-fault (Failed action depth) =
           by-trace (tracedIn (manner .model) p depth room) (traced-small depth)
         where
-          by-trace : (t : Trace) → SmallTrace t → SmallSaid (saidBy p action t)
+          by-trace : (t : Trace) → SmallTrace t → SmallSaid (saidBy (manner .wording) p action t)
           by-trace (NoRoom index) small = tt
           by-trace (Traced scan block cause) small = (kind-small cause, small .0, small .1)
 

@@ -25,8 +25,8 @@ use Rattle.bounds.proofs.Texts.{Within, part-within}
 
 pub message-short : MessageShort
 unfolding messageOf messageText
-message-short p members records action cause =
-    let doing = actionText (p .members) (p .memberCount) action in
+message-short p members records wording action cause =
+    let doing = actionText wording (p .members) (p .memberCount) action in
     let reason = causeText cause (p .records) (p .recordCount) (p .signature) (isInstance (p .flags)) in
     let room : much + 3 * longest + 100 ≤ most = lit≤ tt in
     omega (
@@ -34,7 +34,7 @@ message-short p members records action cause =
       room,
       records,
       length-append doing reason,
-      action-within (p .members) (p .memberCount) action members,
+      action-within wording (p .members) (p .memberCount) action members,
       cause-within cause (p .records) (p .recordCount) (p .signature) (isInstance (p .flags)),
     )
 
@@ -51,9 +51,9 @@ case-within bytes places read = by-test (ltb longest (length bytes)) refl read
 
 pub needed-is-length : NeededIsLength
 unfolding partsOf
-needed-is-length bytes places read action cause =
+needed-is-length bytes places read wording action cause =
     let p = partsOf bytes places in
     let short : length bytes ≤ longest = case-within bytes places read in
     min-eq-left (message-short p
     (omega (arith, short, part-within (places .«members_length») (places .members) bytes))
-    (omega (arith, short, part-within (places .«records_length») (places .records) bytes)) action cause)
+    (omega (arith, short, part-within (places .«records_length») (places .records) bytes)) wording action cause)

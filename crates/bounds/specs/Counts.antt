@@ -8,7 +8,7 @@ use Rattle.number.specs.Number.{greatest}
 use Rattle.report.specs.Report.{reportIn}
 use Rattle.report.specs.declared.Manner.{Manner}
 use Rattle.answer.specs.declared.Report.{Report}
-use Rattle.answer.specs.declared.Report.the-variants.{Message, NoMessage, Broken, NoRoom, NoOutput, TooLong}
+use Rattle.answer.specs.declared.Report.the-variants.{Message, NoMessage, Broken, NoRoom, NoOutput, TooLong, NoWording}
 
 -- "kind (1 action, 2 action and cause), scan count, block count"
 abbrev pub Small : Report → Type 0
@@ -18,6 +18,7 @@ Small (Broken offset) = Unit {0}
 Small (NoRoom index) = Unit {0}
 Small (NoOutput size) = Unit {0}
 Small TooLong = Unit {0}
+Small NoWording = Unit {0}
 
 abbrev pub CountsSmall : Type 0
 CountsSmall =

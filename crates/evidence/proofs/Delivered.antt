@@ -37,7 +37,7 @@ module _ (manner : Manner) (bytes : List ℕ) (places : Places) (reads : caseOf 
   unfolding reportIn
   answer-is told e = rw (reads, e)
 
-  left-is : (told : Said) → saidIn manner p room ≡ told → reportedBy manner bytes room out ≡ outputBy told out
+  pub left-is : (told : Said) → saidIn manner p room ≡ told → reportedBy manner bytes room out ≡ outputBy told out
   unfolding reportedBy
   left-is told e = rw (reads, e)
 

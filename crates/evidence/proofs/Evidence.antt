@@ -125,7 +125,7 @@ module _ (manner : Manner) (p : Parts) (pool : Pool) (room : ℕ) (message : Lis
         loaded = cause .2;
       }
 
-  is-evidence : Evidence p pool message scan block
+  is-evidence : Evidence (manner .wording) p pool message scan block
   unfolding messageOf messageText causeText
   is-evidence =
       record {

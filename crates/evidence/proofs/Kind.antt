@@ -30,6 +30,7 @@ use Rattle.report.specs.declared.Manner.{Manner}
 use Rattle.trace.specs.Trace.{slotFrom, traceOf, tracedBy}
 use Rattle.trace.specs.declared.Trace.{Trace}
 use Rattle.trace.specs.declared.Trace.the-variants.{NoRoom, Traced}
+use Rattle.words.specs.declared.Wording.{Wording}
 use Rattle.evidence.specs.Kind.{CausedIn, KindTwoIn, KindTwo, ActionAlone, OneOrTwoIn, OneOrTwo}
 
 -- ---- kind 2 has a cause: what is said is taken apart, from the fault to the slot
@@ -49,10 +50,10 @@ module _ (manner : Manner) (p : Parts) (room : ℕ) (message : List ℕ) (scan b
 
         by-slot :
             (slot : Slot) → found ≡ slot → ltb depth (length slots) ≡ true →
-            Two (said (messageOf p action slot) (kindOf slot) scanned count) → CausedIn manner p room message scan block
+            Two (said (messageOf (manner .wording) p action slot) (kindOf slot) scanned count) → CausedIn manner p room message scan block
         by-slot Other e high told = let z : _≡_ {A = ℕ} 1 2 = cc in absurd (omega arith)
         by-slot (Loaded load local) e high told =
-            let words : messageOf p action (Loaded load local) ≡ message = cc in
+            let words : messageOf (manner .wording) p action (Loaded load local) ≡ message = cc in
             let scans : scanned ≡ scan = cc in
             let counts : count ≡ block = cc in
             record {
@@ -72,14 +73,14 @@ module _ (manner : Manner) (p : Parts) (room : ℕ) (message : List ℕ) (scan b
 
         by-height :
             (b : Bool) → ltb depth (length slots) ≡ b →
-            Two (said (messageOf p action (pick b found Other)) (kindOf (pick b found Other)) scanned count) →
+            Two (said (messageOf (manner .wording) p action (pick b found Other)) (kindOf (pick b found Other)) scanned count) →
             CausedIn manner p room message scan block
         by-height true e told = by-slot found refl e told
         by-height false e told = let z : _≡_ {A = ℕ} 1 2 = cc in absurd (omega arith)
 
       by-walk :
           (walked : Roomed ℕ) → blockWalkIn (manner .model) (p .code) (p .members) (p .memberCount) leader (p .fault) room ≡ walked →
-          Two (saidBy p action (traceOf scanned depth walked)) → CausedIn manner p room message scan block
+          Two (saidBy (manner .wording) p action (traceOf scanned depth walked)) → CausedIn manner p room message scan block
       unfolding slotFrom
       by-walk (lacks index) e told = let z : _≡_ {A = ℕ} 0 1 = cc in absurd (omega arith)
       by-walk (fits (failed count index reason)) e told = let z : _≡_ {A = ℕ} 1 2 = cc in absurd (omega arith)
@@ -87,7 +88,7 @@ module _ (manner : Manner) (p : Parts) (room : ℕ) (message : List ℕ) (scan b
 
     by-scan :
         (x : Scan) → scanOf p ≡ x →
-        Two (saidBy p action (tracedBy (manner .model) (p .code) (p .members) (p .memberCount) (p .fault) depth room x)) →
+        Two (saidBy (manner .wording) p action (tracedBy (manner .model) (p .code) (p .members) (p .memberCount) (p .fault) depth room x)) →
         CausedIn manner p room message scan block
     by-scan (Leader leader scanned) e told =
         by-walk leader scanned e (blockWalkIn (manner .model) (p .code) (p .members) (p .memberCount) leader (p .fault) room) refl told
@@ -120,26 +121,28 @@ kind-two = kind-two-in documentManner
 -- ---- no other kind
 
 -- a message without a cause is the action
-pub plain : (p : Parts) (action : Action) → messageOf p action Other ≡ actionText (p .members) (p .memberCount) action
+pub plain :
+    (wording : Wording) (p : Parts) (action : Action) →
+    messageOf wording p action Other ≡ actionText wording (p .members) (p .memberCount) action
 unfolding messageOf messageText causeText
-plain p action = append-nil (actionText (p .members) (p .memberCount) action)
+plain wording p action = append-nil (actionText wording (p .members) (p .memberCount) action)
 
 module _ (manner : Manner) (p : Parts) (room : ℕ) (message : List ℕ) (kind scan block : ℕ) where
   abbrev Kinds : Type 0
-  Kinds = ((kind ≡ 1) × ActionAlone p message) ⊎ (kind ≡ 2)
+  Kinds = ((kind ≡ 1) × ActionAlone (manner .wording) p message) ⊎ (kind ≡ 2)
 
   module _ (action : Action) (depth : ℕ)
       (decodes : decoded (p .code) (p .members) (p .memberCount) (p .fault) ≡ Failed action depth) where
     by-cause :
         (cause : Slot) (scanned count : ℕ) →
-        said (messageOf p action cause) (kindOf cause) scanned count ≡ said message kind scan block → Kinds
+        said (messageOf (manner .wording) p action cause) (kindOf cause) scanned count ≡ said message kind scan block → Kinds
     by-cause Other scanned count told =
         let one : kind ≡ 1 = cc in
-        let same : message ≡ messageOf p action Other = cc in
-        inl (one, record { action = action; depth = depth; decodes = decodes; words = same ∙ plain p action })
+        let same : message ≡ messageOf (manner .wording) p action Other = cc in
+        inl (one, record { action = action; depth = depth; decodes = decodes; words = same ∙ plain (manner .wording) p action })
     by-cause (Loaded load local) scanned count told = inr cc
 
-    by-trace : (trace : Trace) → saidBy p action trace ≡ said message kind scan block → Kinds
+    by-trace : (trace : Trace) → saidBy (manner .wording) p action trace ≡ said message kind scan block → Kinds
     by-trace (NoRoom index) told = let z : _≡_ {A = ℕ} 0 1 = cc in absurd (omega arith)
     by-trace (Traced scanned count cause) told = by-cause cause scanned count told
 

@@ -32,11 +32,11 @@ module _ (manner : Manner) (p : Parts) (room : ℕ) where
       (count pc : ℕ) →
       Arrived length-rule (p .code) count pc → 202 ≤ byteAt (p .code) pc → (action : Action) (depth : ℕ) →
       decoded (p .code) (p .members) (p .memberCount) (p .fault) ≡ Failed action depth →
-      saidIn manner p room ≡ said (actionText (p .members) (p .memberCount) action) 1 count 0
+      saidIn manner p room ≡ said (actionText (manner .wording) (p .members) (p .memberCount) action) 1 count 0
   unfolding saidIn
   action-alone count pc arrived high action depth decodes =
       rw (decodes, reserved-scan .stops [] (p .code) (p .fault) count pc arrived high)
-      (ap (λ (text : List ℕ). said text 1 count 0) (plain p action))
+      (ap (λ (text : List ℕ). said text 1 count 0) (plain (manner .wording) p action))
 
   same-name :
       (message : List ℕ) (scan block : ℕ) → saidIn manner p room ≡ said message 2 scan block →

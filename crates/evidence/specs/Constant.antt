@@ -9,7 +9,7 @@ use Rattle.basics.specs.Ascii.{ascii}
 use Rattle.basics.specs.Bytes.{AreBytes}
 use Rattle.text.specs.Writing.{over}
 use Rattle.answer.specs.Answer.{numbered}
-use Rattle.report.specs.Report.{reportOf, reportedIn}
+use Rattle.report.specs.Report.{defaultManner, reportIn, reportedBy}
 use Rattle.answer.specs.declared.Report.{Report}
 use Rattle.answer.specs.declared.Report.the-variants.{Message, NoMessage, Broken, NoRoom, NoOutput}
 
@@ -35,15 +35,15 @@ abbrev pub blank : List ℕ
 blank = replicate 60 0
 
 pub record SmallCases : Type 0 where
-  pub reads : reportOf reading 1 60 ≡ Message 55 2 2 1
-  pub readsText : reportedIn reading 1 blank ≡ over (ascii "Cannot read the array length because \"<local0>\" is null") blank
-  pub throws : reportOf throwing 1 60 ≡ Message 49 2 2 1
-  pub throwsText : reportedIn throwing 1 blank ≡ over (ascii "Cannot throw exception because \"<local0>\" is null") blank
-  pub readsNull : reportOf readingNull 1 60 ≡ Message 28 1 2 1
-  pub returns : reportOf returning 1 60 ≡ NoMessage
-  pub broken : reportOf [] 1 60 ≡ Broken 0
-  pub stackless : reportOf reading 0 60 ≡ NoRoom 0
-  pub outless : reportOf reading 1 54 ≡ NoOutput 55
+  pub reads : reportIn defaultManner reading 1 60 ≡ Message 55 2 2 1
+  pub readsText : reportedBy defaultManner reading 1 blank ≡ over (ascii "Cannot read the array length because \"<local0>\" is null") blank
+  pub throws : reportIn defaultManner throwing 1 60 ≡ Message 49 2 2 1
+  pub throwsText : reportedBy defaultManner throwing 1 blank ≡ over (ascii "Cannot throw exception because \"<local0>\" is null") blank
+  pub readsNull : reportIn defaultManner readingNull 1 60 ≡ Message 28 1 2 1
+  pub returns : reportIn defaultManner returning 1 60 ≡ NoMessage
+  pub broken : reportIn defaultManner [] 1 60 ≡ Broken 0
+  pub stackless : reportIn defaultManner reading 0 60 ≡ NoRoom 0
+  pub outless : reportIn defaultManner reading 1 54 ≡ NoOutput 55
 
 -- ---- programs
 
@@ -65,8 +65,8 @@ pub record Program : Type 0 where
 
 -- the contract of `build_message`
 pub record Meets (program : Program) : Type 0 where
-  pub answers : Always (λ bytes stack out. program .answer bytes stack out ≡ reportOf bytes (length stack) (length out))
-  pub leaves : Always (λ bytes stack out. program .output bytes stack out ≡ reportedIn bytes (length stack) out)
+  pub answers : Always (λ bytes stack out. program .answer bytes stack out ≡ reportIn defaultManner bytes (length stack) (length out))
+  pub leaves : Always (λ bytes stack out. program .output bytes stack out ≡ reportedBy defaultManner bytes (length stack) out)
   pub clears : Always (λ bytes stack out. program .stack bytes stack out ≡ replicate (length stack) 0)
 
 -- document 01's number of an answer

@@ -1,6 +1,7 @@
 -- "A name must be evidence" (tender, condition 3), of the report itself: where the message names a local, the value that the
 -- faulting instruction would dereference is the one that this local held when it was loaded. So where that value is null, the
--- local was null, as the message says. Of a report in any manner: "demand 3 holds for both" models (document 02, request 1).
+-- local was null, as the message says. Of a report in any manner, so in both models and both wordings (document 02: "demand 3
+-- holds for both").
 -- proofs/Evidence.antt has its proof.
 -- As condition 3, it does not cover handler entries: an exception handler that begins inside the block enters it too.
 -- Assumes nothing.
@@ -34,6 +35,7 @@ use Rattle.report.specs.declared.Manner.{Manner}
 use Rattle.answer.specs.declared.Report.the-variants.{Message}
 use Rattle.truth.specs.Condition.{InBlock, Described}
 use Rattle.truth.specs.Translation.{since, HeldWhen}
+use Rattle.words.specs.declared.Wording.{Wording}
 
 -- ---- what is supposed
 
@@ -54,7 +56,7 @@ pub record Proven {Val : Type 0} (p : Parts) (pool : Pool) (machine : ℕ → St
   pub dereferenced : target pool (p .code) (machine block) ≡ value ∷ []
   pub loaded : HeldWhen machine block load local value
 
-pub record Evidence (p : Parts) (pool : Pool) (message : List ℕ) (scan block : ℕ) : Type 1 where
+pub record Evidence (wording : Wording) (p : Parts) (pool : Pool) (message : List ℕ) (scan block : ℕ) : Type 1 where
   pub action : Action
   pub depth : ℕ
   pub leader : ℕ
@@ -62,10 +64,10 @@ pub record Evidence (p : Parts) (pool : Pool) (message : List ℕ) (scan block :
   pub local : ℕ
   -- the action is the fault's
   pub decodes : decoded (p .code) (p .members) (p .memberCount) (p .fault) ≡ Failed action depth
-  -- the message: the action, and the name of the local as it stands at its load
+  -- the message: the action in the wording, and the name of the local as it stands at its load
   pub words :
       message
-      ≡ actionText (p .members) (p .memberCount) action
+      ≡ actionText wording (p .members) (p .memberCount) action
       ++ (ascii " because \"" ++ localName (p .records) (p .recordCount) (p .signature) (isInstance (p .flags)) local load
       ++ ascii "\" is null")
   -- the block begins at its leader, and nothing that the scan knows lands between that and the fault
@@ -81,7 +83,7 @@ pub record Evidence (p : Parts) (pool : Pool) (message : List ℕ) (scan block :
 abbrev pub NameIsEvidence : Type 1
 NameIsEvidence =
     (manner : Manner) (p : Parts) (pool : Pool) (room : ℕ) (message : List ℕ) (scan block : ℕ) → AreBytes (p .code) →
-    WellDescribed p pool → saidIn manner p room ≡ said message 2 scan block → Evidence p pool message scan block
+    WellDescribed p pool → saidIn manner p room ≡ said message 2 scan block → Evidence (manner .wording) p pool message scan block
 
 -- ---- a whole case
 
@@ -91,7 +93,7 @@ pub record Reported (manner : Manner) (bytes : List ℕ) (places : Places) (pool
   pub message : List ℕ
   pub sized : size ≡ length message
   pub written : reportedBy manner bytes room out ≡ over message out
-  pub evidence : Evidence (partsOf bytes places) pool message scan block
+  pub evidence : Evidence (manner .wording) (partsOf bytes places) pool message scan block
 
 -- what `build_message` and `build_message_in` answer and leave, by their contracts: where the kind is 2, the output starts with a message whose name
 -- is evidence

@@ -2,7 +2,7 @@
 -- Assumes nothing.
 use Rattle.jvms.specs.Machine.{Pool}
 use Rattle.casefile.specs.declared.Places.{Places}
-use Rattle.report.specs.Report.{documentManner}
+use Rattle.report.specs.Report.{defaultManner}
 use Rattle.evidence.specs.Constant.{reading, blank}
 use Rattle.evidence.specs.Evidence.{Reported}
 
@@ -26,4 +26,4 @@ places =
 
 -- whatever the pool: no instruction of the block cites it
 abbrev pub NamedByEvidence : Type 1
-NamedByEvidence = (pool : Pool) → Reported documentManner reading places pool 1 blank 55 2 1
+NamedByEvidence = (pool : Pool) → Reported defaultManner reading places pool 1 blank 55 2 1

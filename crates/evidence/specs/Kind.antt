@@ -19,6 +19,7 @@ use Rattle.action.specs.Action.{actionText}
 use Rattle.answer.specs.Answer.{said}
 use Rattle.report.specs.Report.{documentManner, scanOf, messageOf, saidIn}
 use Rattle.report.specs.declared.Manner.{Manner}
+use Rattle.words.specs.declared.Wording.{Wording}
 
 -- "A cause is given exactly when the walk succeeds, its height exceeds the depth, and the slot at that depth from the top is
 -- a load".
@@ -39,7 +40,7 @@ pub record CausedIn (manner : Manner) (p : Parts) (room : ℕ) (message : List �
   pub high : depth < length slots
   -- "the slot at that depth from the top is a load"
   pub slot : unpacked (getD slots (length slots - 1 - depth) 0) ≡ Loaded load local
-  pub words : message ≡ messageOf p action (Loaded load local)
+  pub words : message ≡ messageOf (manner .wording) p action (Loaded load local)
 
 -- in both directions, for the parts of any case and any room
 pub record KindTwoIn (manner : Manner) : Type 0 where
@@ -50,18 +51,18 @@ pub record KindTwoIn (manner : Manner) : Type 0 where
       (p : Parts) (room : ℕ) (message : List ℕ) (scan block : ℕ) → CausedIn manner p room message scan block →
       saidIn manner p room ≡ said message 2 scan block
 
--- the message is the fault's action, and nothing more
-pub record ActionAlone (p : Parts) (message : List ℕ) : Type 0 where
+-- the message is the fault's action in a wording, and nothing more
+pub record ActionAlone (wording : Wording) (p : Parts) (message : List ℕ) : Type 0 where
   pub action : Action
   pub depth : ℕ
   pub decodes : decoded (p .code) (p .members) (p .memberCount) (p .fault) ≡ Failed action depth
-  pub words : message ≡ actionText (p .members) (p .memberCount) action
+  pub words : message ≡ actionText wording (p .members) (p .memberCount) action
 
 -- every message is of kind 1, with the action alone, or of kind 2
 abbrev pub OneOrTwoIn : Manner → Type 0
 OneOrTwoIn manner =
     (p : Parts) (room : ℕ) (message : List ℕ) (kind scan block : ℕ) → saidIn manner p room ≡ said message kind scan block →
-    ((kind ≡ 1) × ActionAlone p message) ⊎ (kind ≡ 2)
+    ((kind ≡ 1) × ActionAlone (manner .wording) p message) ⊎ (kind ≡ 2)
 
 -- ---- document 01's manner
 

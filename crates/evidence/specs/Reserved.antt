@@ -35,7 +35,7 @@ pub record ReservedReport (manner : Manner) : Type 0 where
       (p : Parts) (room count pc : ℕ) →
       Arrived length-rule (p .code) count pc → 202 ≤ byteAt (p .code) pc → (action : Action) (depth : ℕ) →
       decoded (p .code) (p .members) (p .memberCount) (p .fault) ≡ Failed action depth →
-      saidIn manner p room ≡ said (actionText (p .members) (p .memberCount) action) 1 count 0
+      saidIn manner p room ≡ said (actionText (manner .wording) (p .members) (p .memberCount) action) 1 count 0
   -- no name is new: one that is given is given by document 01's lengths too, with message and counts
   pub sameName :
       (p : Parts) (room : ℕ) (message : List ℕ) (scan block : ℕ) →

@@ -33,19 +33,19 @@ ghost use Rattle.descriptor.specs.declared.Slots.the-variants.{Slots as SlotsOf
 ghost use Rattle.leader.specs.Scan.{blockLeader};
 ghost use Rattle.answer.specs.Answer.{answerBy, outputBy};
 ghost use Rattle.effects.specs.declared.Model.the-variants.{Full};
-ghost use Rattle.report.specs.Report.{fullManner, reportIn, reportedBy, reportOf, reportedIn};
+ghost use Rattle.report.specs.Report.{defaultManner, fullManner, reportIn, reportedBy, reportWorded, reportedWorded};
 ghost use Rattle.structs.specs.Structs.{reportNumbers, lengthNumbers, leaderNumbers, slotNumbers, nameNumbers, strictNumbers};
-ghost use Rattle.ffi.specs.Numbers.{caseWalk, caseCells, caseWalkIn, caseCellsIn, spoken, caseName, caseNamed, parameterNumbers, parametersIn};
+ghost use Rattle.ffi.specs.Numbers.{modelBy, caseWalk, caseCells, caseWalkIn, caseCellsIn, spoken, caseName, caseNamed, parameterNumbers, parametersIn};
 
-// Reports on a case, over a lent stack and a lent output.
+// Reports on a case, over a lent stack and a lent output. A call that names no wording gets 2.
 #[no_mangle]
 pub extern "C" fn korsepal_report(
     case: &[u8],
     stack: &mut [u64],
     output: &mut [u8],
 ) -> KorsepalReport
-    ensures answers { λ r. ⌜ r ≡ reportNumbers (reportOf (now (case .entry)) (length (now (stack .entry))) (length (now (output .entry)))) ⌝ }
-    ensures leaves { λ r. ⌜ now (output .exit) ≡ reportedIn (now (case .entry)) (length (now (stack .entry))) (now (output .entry)) ⌝ }
+    ensures answers { λ r. ⌜ r ≡ reportNumbers (reportIn defaultManner (now (case .entry)) (length (now (stack .entry))) (length (now (output .entry)))) ⌝ }
+    ensures leaves { λ r. ⌜ now (output .exit) ≡ reportedBy defaultManner (now (case .entry)) (length (now (stack .entry))) (now (output .entry)) ⌝ }
     ensures clears { λ r. ⌜ now (stack .exit) ≡ replicate (length (now (stack .entry))) 0 ⌝ }
 {
     let answer = report::build_message(case, stack, output);
@@ -64,6 +64,34 @@ pub extern "C" fn korsepal_report_full(
     ensures clears { λ r. ⌜ now (stack .exit) ≡ replicate (length (now (stack .entry))) 0 ⌝ }
 {
     let answer = report::build_message_in(report::full_manner(), case, stack, output);
+    report_numbers(answer)
+}
+
+// 0 asks for document 01's model, any other number for the full one.
+fn model_by(full: u32) -> Model
+    ensures { λ r. ⌜ r ≡ modelBy full ⌝ }
+{
+    match full {
+        0 => Model::Document,
+        _ => Model::Full,
+    }
+}
+
+// The same in a model and a wording, both by a number.
+#[no_mangle]
+pub extern "C" fn korsepal_report_in(
+    full: u32,
+    wording: u32,
+    case: &[u8],
+    stack: &mut [u64],
+    output: &mut [u8],
+) -> KorsepalReport
+    ensures answers { λ r. ⌜ r ≡ reportNumbers (reportWorded (modelBy full) wording (now (case .entry)) (length (now (stack .entry))) (length (now (output .entry)))) ⌝ }
+    ensures leaves { λ r. ⌜ now (output .exit) ≡ reportedWorded (modelBy full) wording (now (case .entry)) (length (now (stack .entry))) (now (output .entry)) ⌝ }
+    ensures clears { λ r. ⌜ now (stack .exit) ≡ replicate (length (now (stack .entry))) 0 ⌝ }
+{
+    let model = model_by(full);
+    let answer = report::build_message_worded(model, wording as usize, case, stack, output);
     report_numbers(answer)
 }
 

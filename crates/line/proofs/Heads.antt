@@ -6,7 +6,7 @@ use mathlib.Core.List.{_++_, append-assoc, append-nil}
 use Rattle.basics.specs.Ascii.{ascii}
 use Rattle.text.specs.Decimal.{digits, decimal}
 use Rattle.answer.specs.Answer.{numbered}
-use Rattle.answer.specs.declared.Report.the-variants.{Message, NoMessage, Broken, NoRoom, NoOutput, TooLong}
+use Rattle.answer.specs.declared.Report.the-variants.{Message, NoMessage, Broken, NoRoom, NoOutput, TooLong, NoWording}
 use Rattle.line.specs.Head.{spaced, allSpaced, headBy, headText}
 use Rattle.line.specs.Pieces.{carried, counted}
 
@@ -37,3 +37,7 @@ head-of-outless size = refl
 pub head-of-long : headText TooLong ≡ ascii "5 0 0 0"
 unfolding headText headBy numbered decimal digits
 head-of-long = refl
+
+pub head-of-unworded : headText NoWording ≡ ascii "11 0 0 0"
+unfolding headText headBy numbered decimal digits
+head-of-unworded = refl

@@ -49,5 +49,6 @@ pub fn put_head_at(out: &mut [u8], at: usize, answer: Report) -> usize
         Report::NoRoom { at: index } => put_carried_at(out, at, b"3", index),
         Report::NoOutput { needed } => put_carried_at(out, at, b"4", needed),
         Report::TooLong => put_at(out, at, b"5 0 0 0"),
+        Report::NoWording => put_at(out, at, b"11 0 0 0"),
     }
 }

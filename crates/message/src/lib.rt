@@ -4,6 +4,7 @@ use action::put_action_at;
 use cell::Slot;
 use fault::Action;
 use text::put_at;
+use words::Wording;
 ghost use Rattle.message.specs.Message.{causeText, messageText};
 ghost use Rattle.text.specs.Writing.{Written};
 
@@ -38,10 +39,11 @@ fn put_cause_at(
     }
 }
 
-// Writes the message from a place on. Answers the place after it.
+// Writes the message in a wording from a place on. Answers the place after it.
 pub fn put_message_at(
     out: &mut [u8],
     at: usize,
+    wording: Wording,
     members: &[u8],
     member_count: usize,
     action: Action,
@@ -51,8 +53,8 @@ pub fn put_message_at(
     signature: &[u8],
     instance: bool,
 ) -> usize
-    ensures { λ r. ⌜ Written at (messageText (now (members .entry)) «member_count» action cause (now (records .entry)) «record_count» (now (signature .entry)) instance) (now (out .entry)) r (now (out .exit)) ⌝ }
+    ensures { λ r. ⌜ Written at (messageText wording (now (members .entry)) «member_count» action cause (now (records .entry)) «record_count» (now (signature .entry)) instance) (now (out .entry)) r (now (out .exit)) ⌝ }
 {
-    let next = put_action_at(out, at, members, member_count, action);
+    let next = put_action_at(out, at, wording, members, member_count, action);
     put_cause_at(out, next, cause, records, record_count, signature, instance)
 }

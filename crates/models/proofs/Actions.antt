@@ -16,12 +16,13 @@ use Rattle.fault.specs.declared.Action.{Action}
 use Rattle.fault.specs.declared.Fault.{Fault}
 use Rattle.fault.specs.declared.Fault.the-variants.{Failed, Nothing}
 use Rattle.answer.specs.Answer.{kindOf, silent, roomless, said}
-use Rattle.report.specs.Report.{documentManner, fullManner, scanOf, tracedIn, messageOf, saidBy, saidAt, saidIn, saidOf}
+use Rattle.report.specs.Report.{scanOf, tracedIn, messageOf, saidBy, saidAt, saidIn}
 use Rattle.report.specs.declared.Manner.{Manner}
 use Rattle.trace.specs.Trace.{traceOf, tracedBy}
 use Rattle.trace.specs.declared.Trace.{Trace}
 use Rattle.trace.specs.declared.Trace.the-variants.{NoRoom, Traced}
-use Rattle.models.specs.Models.{SilentAlike, SameAction, ActionsAlike}
+use Rattle.words.specs.declared.Wording.{Wording}
+use Rattle.models.specs.Models.{old, full, SilentAlike, SameAction, ActionsAlike}
 use Rattle.models.proofs.Cause.{same-cause}
 use Rattle.models.proofs.Elsewhere.{fault}
 
@@ -33,7 +34,7 @@ scanned (Unmeasured at scan) = scan
 
 module _ (p : Parts) (manner : Manner) (room : ℕ) where
   -- a fault is told of, or lacks room
-  not-silent : (action : Action) (trace : Trace) → saidBy p action trace ≡ silent → ⊥
+  not-silent : (action : Action) (trace : Trace) → saidBy (manner .wording) p action trace ≡ silent → ⊥
   not-silent action (NoRoom index) e = let z : _≡_ {A = ℕ} 0 1 = cc in absurd (omega arith)
   not-silent action (Traced scan block cause) e = let z : _≡_ {A = ℕ} 0 1 = cc in absurd (omega arith)
 
@@ -60,12 +61,12 @@ walk-scans scan depth (fits (done slots count)) s block cause e = cc
 
 module _ (manner : Manner) (p : Parts) (room : ℕ) (message : List ℕ) (kind scan block : ℕ) where
   -- what it is made of
-  record Made : Type 0 where
-    action : Action
+  pub record Made : Type 0 where
+    pub action : Action
     depth : ℕ
     decodes : fault p ≡ Failed action depth
-    cause : Slot
-    words : message ≡ messageOf p action cause
+    pub cause : Slot
+    pub words : message ≡ messageOf (manner .wording) p action cause
     kinds : kind ≡ kindOf cause
     scans : scan ≡ scanned (scanOf p)
 
@@ -81,10 +82,10 @@ module _ (manner : Manner) (p : Parts) (room : ℕ) (message : List ℕ) (kind s
 
     by-trace :
         (trace : Trace) → tracedIn (manner .model) p depth room ≡ trace →
-        saidBy p action trace ≡ said message kind scan block → Made
+        saidBy (manner .wording) p action trace ≡ said message kind scan block → Made
     by-trace (NoRoom index) e told = let z : _≡_ {A = ℕ} 0 1 = cc in absurd (omega arith)
     by-trace (Traced s count cause) e told =
-        let words : messageOf p action cause ≡ message = cc in
+        let words : messageOf (manner .wording) p action cause ≡ message = cc in
         let kinds : kindOf cause ≡ kind = cc in
         let scans : s ≡ scan = cc in
         record {
@@ -102,7 +103,7 @@ module _ (manner : Manner) (p : Parts) (room : ℕ) (message : List ℕ) (kind s
   by-decoding (Failed action depth) e told =
       by-trace action depth e (tracedIn (manner .model) p depth room) refl told
 
-  made : saidIn manner p room ≡ said message kind scan block → Made
+  pub made : saidIn manner p room ≡ said message kind scan block → Made
   unfolding saidIn
   made told = by-decoding (fault p) refl told
 
@@ -112,26 +113,26 @@ kind-some : (cause : Slot) → 1 ≤ kindOf cause
 kind-some Other = lit≤ tt
 kind-some (Loaded load local) = lit≤ tt
 
-module _ (p : Parts) (room room′ : ℕ) (message message′ : List ℕ) (kind kind′ scan scan′ block block′ : ℕ)
-    (told : saidOf p room ≡ said message kind scan block)
-    (told′ : saidIn fullManner p room′ ≡ said message′ kind′ scan′ block′) where
+module _ (w : Wording) (p : Parts) (room room′ : ℕ) (message message′ : List ℕ) (kind kind′ scan scan′ block block′ : ℕ)
+    (told : saidIn (old w) p room ≡ said message kind scan block)
+    (told′ : saidIn (full w) p room′ ≡ said message′ kind′ scan′ block′) where
   -- a cause is not dropped
   kept : kind ≡ 2 → kind′ ≡ 2
   kept two =
-      let roomy : (index : ℕ) → saidIn fullManner p room′ ≡ roomless index → ⊥ = λ index e.
+      let roomy : (index : ℕ) → saidIn (full w) p room′ ≡ roomless index → ⊥ = λ index e.
       let z : _≡_ {A = ℕ} 0 1 = cc in omega arith in
       let same : said message 2 scan block ≡ said message′ kind′ scan′ block′ =
-      sym (same-cause p room room′ message scan block (told ∙ rw two) roomy) ∙ told′ in
+      sym (same-cause w p room room′ message scan block (told ∙ rw two) roomy) ∙ told′ in
       cc
 
   never-back : (cause cause′ : Slot) → kind ≡ kindOf cause → kind′ ≡ kindOf cause′ → kind ≤ kind′
   never-back Other cause′ e e′ = omega (arith, e, e′, kind-some cause′)
   never-back (Loaded load local) cause′ e e′ = omega (arith, e, kept e)
 
-  same-action : SameAction p message message′ kind kind′ scan scan′
+  same-action : SameAction w p message message′ kind kind′ scan scan′
   same-action =
-      let one = made documentManner p room message kind scan block told in
-      let other = made fullManner p room′ message′ kind′ scan′ block′ told′ in
+      let one = made (old w) p room message kind scan block told in
+      let other = made (full w) p room′ message′ kind′ scan′ block′ told′ in
       let failing : Failed (other .action) (other .depth) ≡ Failed (one .action) (one .depth) = sym (other .decodes) ∙ one .decodes in
       let same : other .action ≡ one .action = cc in
       record {
@@ -141,7 +142,7 @@ module _ (p : Parts) (room room′ : ℕ) (message message′ : List ℕ) (kind 
         cause = one .cause;
         cause′ = other .cause;
         words = one .words;
-        words′ = other .words ∙ ap (λ (a : Action). messageOf p a (other .cause)) same;
+        words′ = other .words ∙ ap (λ (a : Action). messageOf w p a (other .cause)) same;
         kinds = one .kinds;
         kinds′ = other .kinds;
         scans = other .scans ∙ sym (one .scans);

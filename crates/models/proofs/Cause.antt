@@ -8,22 +8,24 @@ use Rattle.effects.specs.declared.Model.the-variants.{Full}
 use Rattle.walk.specs.Room.{Roomed, lacks, fits, blockWalkIn}
 use Rattle.walk.specs.Walk.{done}
 use Rattle.answer.specs.Answer.{roomless, said}
-use Rattle.report.specs.Report.{fullManner, saidIn}
-use Rattle.evidence.specs.Kind.{Caused, CausedIn}
-use Rattle.evidence.proofs.Kind.{kind-two, kind-two-in}
-use Rattle.models.specs.Models.{SameWalk, SameCause, SameCauseHere}
+use Rattle.report.specs.Report.{saidIn}
+use Rattle.evidence.specs.Kind.{CausedIn}
+use Rattle.evidence.proofs.Kind.{kind-two-in}
+use Rattle.words.specs.declared.Wording.{Wording}
+use Rattle.models.specs.Models.{old, full, SameWalk, SameCause, SameCauseHere}
 use Rattle.models.proofs.Walk.{walks-alike}
 
-module _ (p : Parts) (room : ℕ) (message : List ℕ) (scan block : ℕ) (c : Caused p room message scan block) where
+module _ (w : Wording) (p : Parts) (room : ℕ) (message : List ℕ) (scan block : ℕ)
+    (c : CausedIn (old w) p room message scan block) where
   walks : SameWalk (p .code) (p .members) (p .memberCount) (c .leader) (p .fault) room (c .slots) block
   walks = walks-alike (p .code) (p .members) (p .memberCount) (c .leader) (p .fault) room (c .slots) block (c .walks)
 
   module _ (room′ : ℕ) where
-    abbrev full : Roomed ℕ
-    full = blockWalkIn Full (p .code) (p .members) (p .memberCount) (c .leader) (p .fault) room′
+    abbrev walked : Roomed ℕ
+    walked = blockWalkIn Full (p .code) (p .members) (p .memberCount) (c .leader) (p .fault) room′
 
     -- all but the walk is the same in every manner
-    full-cause : full ≡ fits (done (c .slots) block) → CausedIn fullManner p room′ message scan block
+    full-cause : walked ≡ fits (done (c .slots) block) → CausedIn (full w) p room′ message scan block
     full-cause e =
         record {
           action = c .action;
@@ -40,21 +42,21 @@ module _ (p : Parts) (room : ℕ) (message : List ℕ) (scan block : ℕ) (c : C
           words = c .words;
         }
 
-    full-said : full ≡ fits (done (c .slots) block) → saidIn fullManner p room′ ≡ said message 2 scan block
-    full-said e = kind-two-in fullManner .always p room′ message scan block (full-cause e)
+    full-said : walked ≡ fits (done (c .slots) block) → saidIn (full w) p room′ ≡ said message 2 scan block
+    full-said e = kind-two-in (full w) .always p room′ message scan block (full-cause e)
 
-    full-roomless : (index : ℕ) → full ≡ lacks index → saidIn fullManner p room′ ≡ roomless index
+    full-roomless : (index : ℕ) → walked ≡ lacks index → saidIn (full w) p room′ ≡ roomless index
     unfolding saidIn
     full-roomless index e = rw (c .decodes, c .leads, e)
 
 pub same-cause : SameCause
-same-cause p room room′ message scan block told roomy =
-    let c = kind-two .only p room message scan block told in
-    full-said p room message scan block c room′
-    (walks p room message scan block c .there room′
-    (λ index e. roomy index (full-roomless p room message scan block c room′ index e)))
+same-cause w p room room′ message scan block told roomy =
+    let c = kind-two-in (old w) .only p room message scan block told in
+    full-said w p room message scan block c room′
+    (walks w p room message scan block c .there room′
+    (λ index e. roomy index (full-roomless w p room message scan block c room′ index e)))
 
 pub same-cause-here : SameCauseHere
-same-cause-here p room message scan block told =
-    let c = kind-two .only p room message scan block told in
-    full-said p room message scan block c room (walks p room message scan block c .here)
+same-cause-here w p room message scan block told =
+    let c = kind-two-in (old w) .only p room message scan block told in
+    full-said w p room message scan block c room (walks w p room message scan block c .here)

@@ -39,8 +39,9 @@ use Rattle.fault.specs.Decoding.{decoded}
 use Rattle.fault.specs.declared.Fault.{Fault}
 use Rattle.fault.specs.declared.Fault.the-variants.{Failed, Nothing}
 use Rattle.answer.specs.Answer.{Said, answerBy, outputBy}
-use Rattle.report.specs.Report.{documentManner, scanOf, tracedFrom, saidBy, saidAt, saidIn, saidOf, answerOf, outputOf, reportIn, reportedBy}
+use Rattle.report.specs.Report.{mannerOf, scanOf, tracedFrom, saidBy, saidAt, saidIn, answerOf, outputOf, reportIn, reportedBy}
 use Rattle.evidence.proofs.Evidence.{code-bytes}
+use Rattle.words.specs.declared.Wording.{Wording}
 use Rattle.models.specs.Cells.{formerWalk, formerSlot, formerTrace, formerTraced, formerSaidAt, formerSaid, formerAnswer, formerOutput, PresentUnmoved}
 
 -- ---- a cause
@@ -109,13 +110,14 @@ module _ (p : Parts) (are : AreBytes (p .code)) (short : length (p .code) ≤ 2 
       (λ index. refl) (λ v w alike. end-same scan depth alike)
   traced-same depth room (Unmeasured at scan) = refl
 
-  said-at : (room : ℕ) (fault : Fault) → saidAt documentManner p room fault ≡ formerSaidAt p room fault
-  said-at room Nothing = refl
-  said-at room (Failed action depth) = ap (saidBy p action) (traced-same depth room (scanOf p))
+  said-at :
+      (w : Wording) (room : ℕ) (fault : Fault) → saidAt (mannerOf Document w) p room fault ≡ formerSaidAt w p room fault
+  said-at w room Nothing = refl
+  said-at w room (Failed action depth) = ap (saidBy w p action) (traced-same depth room (scanOf p))
 
-  said-same : (room : ℕ) → saidOf p room ≡ formerSaid p room
+  said-same : (w : Wording) (room : ℕ) → saidIn (mannerOf Document w) p room ≡ formerSaid w p room
   unfolding saidIn
-  said-same room = said-at room (decoded (p .code) (p .members) (p .memberCount) (p .fault))
+  said-same w room = said-at w room (decoded (p .code) (p .members) (p .memberCount) (p .fault))
 
 -- ---- cases
 
@@ -129,19 +131,20 @@ module _ (bytes : List ℕ) (are : AreBytes bytes) (places : Places) (reads : ca
   short-code =
       omega (arith, few-bytes, length-take (places .«code_length») (drop (places .code) bytes), length-drop (places .code) bytes)
 
-  case-same : (room : ℕ) → saidOf (partsOf bytes places) room ≡ formerSaid (partsOf bytes places) room
+  case-same :
+      (w : Wording) (room : ℕ) → saidIn (mannerOf Document w) (partsOf bytes places) room ≡ formerSaid w (partsOf bytes places) room
   case-same = said-same (partsOf bytes places) (code-bytes bytes places are) short-code
 
-module _ (bytes : List ℕ) (are : AreBytes bytes) (room : ℕ) where
+module _ (w : Wording) (bytes : List ℕ) (are : AreBytes bytes) (room : ℕ) where
   answers-same :
-      (outRoom : ℕ) (c : Case) → caseOf bytes ≡ c → answerOf documentManner bytes room outRoom c ≡ formerAnswer bytes room outRoom c
-  answers-same outRoom (cases.Parts places) reads = ap (λ (told : Said). answerBy told outRoom) (case-same bytes are places reads room)
+      (outRoom : ℕ) (c : Case) → caseOf bytes ≡ c → answerOf (mannerOf Document w) bytes room outRoom c ≡ formerAnswer w bytes room outRoom c
+  answers-same outRoom (cases.Parts places) reads = ap (λ (told : Said). answerBy told outRoom) (case-same bytes are places reads w room)
   answers-same outRoom (cases.Wrong offset) reads = refl
   answers-same outRoom cases.TooLong reads = refl
 
   outputs-same :
-      (out : List ℕ) (c : Case) → caseOf bytes ≡ c → outputOf documentManner bytes room out c ≡ formerOutput bytes room out c
-  outputs-same out (cases.Parts places) reads = ap (λ (told : Said). outputBy told out) (case-same bytes are places reads room)
+      (out : List ℕ) (c : Case) → caseOf bytes ≡ c → outputOf (mannerOf Document w) bytes room out c ≡ formerOutput w bytes room out c
+  outputs-same out (cases.Parts places) reads = ap (λ (told : Said). outputBy told out) (case-same bytes are places reads w room)
   outputs-same out (cases.Wrong offset) reads = refl
   outputs-same out cases.TooLong reads = refl
 
@@ -151,7 +154,7 @@ present-unmoved =
     record {
       walks = λ code members are short count leader fault room.
           walks-same code members are short count leader fault room walkAnswer walkAnswer (λ index. refl) (λ v w alike. answer-same alike);
-      said = said-same;
-      answers = λ bytes are room outRoom. answers-same bytes are room outRoom (caseOf bytes) refl;
-      outputs = λ bytes are room out. outputs-same bytes are room out (caseOf bytes) refl;
+      said = λ w p are short. said-same p are short w;
+      answers = λ w bytes are room outRoom. answers-same w bytes are room outRoom (caseOf bytes) refl;
+      outputs = λ w bytes are room out. outputs-same w bytes are room out (caseOf bytes) refl;
     }

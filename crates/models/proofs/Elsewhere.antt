@@ -16,45 +16,46 @@ use Rattle.fault.specs.declared.Action.{Action}
 use Rattle.fault.specs.declared.Fault.{Fault}
 use Rattle.fault.specs.declared.Fault.the-variants.{Failed, Nothing}
 use Rattle.answer.specs.Answer.{Said, silent, roomless}
-use Rattle.report.specs.Report.{documentManner, fullManner, scanOf, tracedFrom, saidBy, saidAt, saidIn, saidOf}
+use Rattle.report.specs.Report.{scanOf, tracedFrom, saidBy, saidAt, saidIn}
 use Rattle.trace.specs.Trace.{traceOf}
-use Rattle.models.specs.Models.{SameElsewhere, SameLack}
+use Rattle.words.specs.declared.Wording.{Wording}
+use Rattle.models.specs.Models.{old, full, SameElsewhere, SameLack}
 use Rattle.models.proofs.Walk.{full-is, full-lacks}
 
 abbrev pub fault : Parts → Fault
 fault p = decoded (p .code) (p .members) (p .memberCount) (p .fault)
 
 -- what is said of a fault by a walk
-abbrev told : Parts → Action → ℕ → ℕ → Roomed ℕ → Said
-told p action depth scan walked = saidBy p action (traceOf scan depth walked)
+abbrev told : Wording → Parts → Action → ℕ → ℕ → Roomed ℕ → Said
+told w p action depth scan walked = saidBy w p action (traceOf scan depth walked)
 
 abbrev walkIn : Model → Parts → ℕ → ℕ → Roomed ℕ
 walkIn model p leader room = blockWalkIn model (p .code) (p .members) (p .memberCount) leader (p .fault) room
 
 -- all but the walk is the same, so what holds of it in both models holds of what is said
-module _ (p : Parts) (room : ℕ) (Holds : Said → Said → Type 0) (same : (what : Said) → Holds what what)
+module _ (w : Wording) (p : Parts) (room : ℕ) (Holds : Said → Said → Type 0) (same : (what : Said) → Holds what what)
     (walks :
     (action : Action) (depth leader scan : ℕ) → fault p ≡ Failed action depth → scanOf p ≡ Leader leader scan →
-    Holds (told p action depth scan (walkIn Document p leader room)) (told p action depth scan (walkIn Full p leader room))) where
+    Holds (told w p action depth scan (walkIn Document p leader room)) (told w p action depth scan (walkIn Full p leader room))) where
   by-scan :
       (action : Action) (depth : ℕ) → fault p ≡ Failed action depth → (scan : Scan) → scanOf p ≡ scan →
-      Holds (saidBy p action (tracedFrom Document scan p depth room)) (saidBy p action (tracedFrom Full scan p depth room))
+      Holds (saidBy w p action (tracedFrom Document scan p depth room)) (saidBy w p action (tracedFrom Full scan p depth room))
   by-scan action depth decodes (Leader leader scan) leads = walks action depth leader scan decodes leads
-  by-scan action depth decodes (Unmeasured at scan) leads = same (saidBy p action (tracedFrom Full (Unmeasured at scan) p depth room))
+  by-scan action depth decodes (Unmeasured at scan) leads = same (saidBy w p action (tracedFrom Full (Unmeasured at scan) p depth room))
 
-  by-fault : (f : Fault) → fault p ≡ f → Holds (saidAt documentManner p room f) (saidAt fullManner p room f)
+  by-fault : (f : Fault) → fault p ≡ f → Holds (saidAt (old w) p room f) (saidAt (full w) p room f)
   by-fault Nothing decodes = same silent
   by-fault (Failed action depth) decodes = by-scan action depth decodes (scanOf p) refl
 
-  in-both : Holds (saidOf p room) (saidIn fullManner p room)
+  in-both : Holds (saidIn (old w) p room) (saidIn (full w) p room)
   unfolding saidIn
   in-both = by-fault (fault p) refl
 
 pub same-elsewhere : SameElsewhere
-same-elsewhere p elsewhere room =
-    in-both p room (λ one other. other ≡ one) (λ what. refl)
+same-elsewhere w p elsewhere room =
+    in-both w p room (λ one other. other ≡ one) (λ what. refl)
     (λ action depth leader scan decodes leads.
-    ap (told p action depth scan)
+    ap (told w p action depth scan)
     (full-is (p .code) (p .members) (p .memberCount) leader (p .fault)
     (λ count index e.
     elsewhere
@@ -73,16 +74,16 @@ same-elsewhere p elsewhere room =
 
 -- room is lacked by the walk alone
 lacking :
-    (p : Parts) (action : Action) (depth scan : ℕ) (walked : Roomed ℕ) (index : ℕ) →
-    told p action depth scan walked ≡ roomless index → walked ≡ lacks index
-lacking p action depth scan (lacks at) index e = let same : at ≡ index = cc in ap lacks same
-lacking p action depth scan (fits (done slots count)) index e = let z : _≡_ {A = ℕ} 0 1 = cc in absurd (omega arith)
-lacking p action depth scan (fits (failed count at reason)) index e = let z : _≡_ {A = ℕ} 0 1 = cc in absurd (omega arith)
+    (w : Wording) (p : Parts) (action : Action) (depth scan : ℕ) (walked : Roomed ℕ) (index : ℕ) →
+    told w p action depth scan walked ≡ roomless index → walked ≡ lacks index
+lacking w p action depth scan (lacks at) index e = let same : at ≡ index = cc in ap lacks same
+lacking w p action depth scan (fits (done slots count)) index e = let z : _≡_ {A = ℕ} 0 1 = cc in absurd (omega arith)
+lacking w p action depth scan (fits (failed count at reason)) index e = let z : _≡_ {A = ℕ} 0 1 = cc in absurd (omega arith)
 
 pub same-lack : SameLack
-same-lack p room index =
-    in-both p room (λ one other. one ≡ roomless index → other ≡ roomless index) (λ what e. e)
+same-lack w p room index =
+    in-both w p room (λ one other. one ≡ roomless index → other ≡ roomless index) (λ what e. e)
     (λ action depth leader scan decodes leads e.
-    ap (told p action depth scan)
+    ap (told w p action depth scan)
     (full-lacks (p .code) (p .members) (p .memberCount) leader (p .fault) room index
-    (lacking p action depth scan (walkIn Document p leader room) index e)))
+    (lacking w p action depth scan (walkIn Document p leader room) index e)))

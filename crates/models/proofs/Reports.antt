@@ -16,39 +16,40 @@ use Rattle.casefile.specs.declared.Places.{Places}
 use Rattle.answer.specs.Answer.{Said, silent, roomless, said, needed, answerBy, outputBy}
 use Rattle.answer.specs.declared.Report.{Report}
 use Rattle.answer.specs.declared.Report.the-variants.{Message, NoMessage, NoRoom, NoOutput}
-use Rattle.report.specs.Report.{documentManner, fullManner, saidIn, answerOf, outputOf, reportIn, reportOf, reportedBy, reportedIn}
+use Rattle.report.specs.Report.{saidIn, answerOf, outputOf, reportIn, reportedBy}
 use Rattle.report.specs.declared.Manner.{Manner}
 use Rattle.evidence.proofs.Delivered.{delivers, answer-is, answered, left, has-parts}
-use Rattle.models.specs.Models.{GivesUp, SameReport, ReportsAlike, NoMessageAlike, NoRoomAlike, ReportsElsewhere}
+use Rattle.words.specs.declared.Wording.{Wording}
+use Rattle.models.specs.Models.{old, full, GivesUp, SameReport, ReportsAlike, NoMessageAlike, NoRoomAlike, ReportsElsewhere}
 use Rattle.models.proofs.Actions.{silent-alike}
 use Rattle.models.proofs.Cause.{same-cause}
 use Rattle.models.proofs.Elsewhere.{same-elsewhere, same-lack}
 
 -- ---- a message with a cause
 
-module _ (bytes : List ℕ) (room room′ : ℕ) (out out′ : List ℕ) (size scan block : ℕ)
-    (answer : reportOf bytes room (length out) ≡ Message size 2 scan block) (enough : size ≤ length out′)
-    (roomy : (index : ℕ) → reportIn fullManner bytes room′ (length out′) ≡ NoRoom index → ⊥) where
-  by-places : (places : Places) → caseOf bytes ≡ cases.Parts places → SameReport bytes room room′ out out′ size scan block
+module _ (w : Wording) (bytes : List ℕ) (room room′ : ℕ) (out out′ : List ℕ) (size scan block : ℕ)
+    (answer : reportIn (old w) bytes room (length out) ≡ Message size 2 scan block) (enough : size ≤ length out′)
+    (roomy : (index : ℕ) → reportIn (full w) bytes room′ (length out′) ≡ NoRoom index → ⊥) where
+  by-places : (places : Places) → caseOf bytes ≡ cases.Parts places → SameReport w bytes room room′ out out′ size scan block
   by-places places reads =
       let p : Parts = partsOf bytes places in
-      let d = delivers documentManner bytes places reads room out size 2 scan block answer in
-      let says : saidIn fullManner p room′ ≡ said (d .message) 2 scan block =
-      same-cause p room room′ (d .message) scan block (d .says)
-      (λ index e. roomy index (answer-is fullManner bytes places reads room′ out′ (roomless index) e)) in
+      let d = delivers (old w) bytes places reads room out size 2 scan block answer in
+      let says : saidIn (full w) p room′ ≡ said (d .message) 2 scan block =
+      same-cause w p room room′ (d .message) scan block (d .says)
+      (λ index e. roomy index (answer-is (full w) bytes places reads room′ out′ (roomless index) e)) in
       let fits : length (d .message) ≤ length out′ = omega (arith, d .sized, enough) in
       record {
-        answers = answered fullManner bytes places reads room′ out′ (d .message) 2 scan block says fits
+        answers = answered (full w) bytes places reads room′ out′ (d .message) 2 scan block says fits
             ∙ ap (λ (n : ℕ). Message n 2 scan block) (sym (d .sized));
         message = d .message;
         sized = d .sized;
         written = d .written;
-        written′ = left fullManner bytes places reads room′ out′ (d .message) 2 scan block says fits;
+        written′ = left (full w) bytes places reads room′ out′ (d .message) 2 scan block says fits;
       }
 
-  same-report : SameReport bytes room room′ out out′ size scan block
+  same-report : SameReport w bytes room room′ out out′ size scan block
   same-report =
-      let lying = has-parts documentManner bytes room (length out) size 2 scan block answer in
+      let lying = has-parts (old w) bytes room (length out) size 2 scan block answer in
       by-places (lying .0) (lying .1)
 
 pub reports-alike : ReportsAlike
@@ -102,33 +103,34 @@ roomless-answer (said message kind scan block) outRoom index e = by-room (leb (l
     by-room false q = let z : _≡_ {A = ℕ} 0 1 = cc in absurd (omega arith)
 
 pub no-room-alike : NoRoomAlike
-no-room-alike bytes room outRoom outRoom′ index =
-    by-parts documentManner fullManner bytes room room outRoom outRoom′ (NoRoom index)
+no-room-alike w bytes room outRoom outRoom′ index =
+    by-parts (old w) (full w) bytes room room outRoom outRoom′ (NoRoom index)
     (λ places reads e.
     let p : Parts = partsOf bytes places in
     ap (λ (told : Said). answerBy told outRoom′)
-    (same-lack p room index (roomless-answer (saidIn documentManner p room) outRoom index e)))
+    (same-lack w p room index (roomless-answer (saidIn (old w) p room) outRoom index e)))
 
 -- ---- all answers and outputs, where document 01's model does not give up
 
-module _ (bytes : List ℕ)
+module _ (w : Wording) (bytes : List ℕ)
     (elsewhere : (places : Places) → caseOf bytes ≡ cases.Parts places → GivesUp (partsOf bytes places) → ⊥) where
-  same-answers : (room outRoom : ℕ) → reportIn fullManner bytes room outRoom ≡ reportOf bytes room outRoom
+  same-answers : (room outRoom : ℕ) → reportIn (full w) bytes room outRoom ≡ reportIn (old w) bytes room outRoom
   same-answers room outRoom =
-      by-parts documentManner fullManner bytes room room outRoom outRoom (reportOf bytes room outRoom)
+      by-parts (old w) (full w) bytes room room outRoom outRoom (reportIn (old w) bytes room outRoom)
       (λ places reads e.
-      ap (λ (told : Said). answerBy told outRoom) (same-elsewhere (partsOf bytes places) (elsewhere places reads) room) ∙ e)
+      ap (λ (told : Said). answerBy told outRoom) (same-elsewhere w (partsOf bytes places) (elsewhere places reads) room) ∙ e)
       refl
 
-  same-outputs : (room : ℕ) (out : List ℕ) → reportedBy fullManner bytes room out ≡ reportedIn bytes room out
+  same-outputs : (room : ℕ) (out : List ℕ) → reportedBy (full w) bytes room out ≡ reportedBy (old w) bytes room out
   unfolding reportedBy
   same-outputs room out = by-case (caseOf bytes) refl
     where
-      by-case : (c : Case) → caseOf bytes ≡ c → outputOf fullManner bytes room out c ≡ outputOf documentManner bytes room out c
+      by-case : (c : Case) → caseOf bytes ≡ c → outputOf (full w) bytes room out c ≡ outputOf (old w) bytes room out c
       by-case (cases.Parts places) reads =
-          ap (λ (told : Said). outputBy told out) (same-elsewhere (partsOf bytes places) (elsewhere places reads) room)
+          ap (λ (told : Said). outputBy told out) (same-elsewhere w (partsOf bytes places) (elsewhere places reads) room)
       by-case (cases.Wrong offset) reads = refl
       by-case cases.TooLong reads = refl
 
 pub reports-elsewhere : ReportsElsewhere
-reports-elsewhere bytes elsewhere = record { answers = same-answers bytes elsewhere; outputs = same-outputs bytes elsewhere }
+reports-elsewhere w bytes elsewhere =
+    record { answers = same-answers w bytes elsewhere; outputs = same-outputs w bytes elsewhere }

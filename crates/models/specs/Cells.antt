@@ -19,6 +19,7 @@ use Rattle.cell.specs.declared.Slot.{Slot}
 use Rattle.cell.specs.declared.Slot.the-variants.{Other}
 use Rattle.effects.specs.Lookup.{lookupIn}
 use Rattle.effects.specs.Rows.{rowOf}
+use Rattle.effects.specs.declared.Model.the-variants.{Document}
 use Rattle.walk.specs.Room.{Roomed, lacks, fits, completed, judged, blockWalk}
 use Rattle.walk.specs.Room.{answerOf as walkAnswer}
 use Rattle.walk.specs.Walk.{done, failed, walk}
@@ -31,7 +32,8 @@ use Rattle.fault.specs.declared.Fault.the-variants.{Failed, Nothing}
 use Rattle.answer.specs.Answer.{Said, silent, answerBy, outputBy}
 use Rattle.answer.specs.declared.Report.{Report}
 use Rattle.answer.specs.declared.Report.the-variants as report
-use Rattle.report.specs.Report.{scanOf, saidBy, saidOf, reportOf, reportedIn}
+use Rattle.words.specs.declared.Wording.{Wording}
+use Rattle.report.specs.Report.{mannerOf, scanOf, saidBy, saidIn, reportIn, reportedBy}
 
 -- ---- a walk and a report by document 01's cells, as those of crates/walk/specs and crates/report/specs are by the cells in use
 
@@ -53,22 +55,22 @@ formerTraced p depth room (Leader leader scan) =
     formerTrace scan depth (formerWalk (p .code) (p .members) (p .memberCount) leader (p .fault) room)
 formerTraced p depth room (Unmeasured at scan) = Traced scan 0 Other
 
-abbrev pub formerSaidAt : Parts → ℕ → Fault → Said
-formerSaidAt p room Nothing = silent
-formerSaidAt p room (Failed action depth) = saidBy p action (formerTraced p depth room (scanOf p))
+abbrev pub formerSaidAt : Wording → Parts → ℕ → Fault → Said
+formerSaidAt w p room Nothing = silent
+formerSaidAt w p room (Failed action depth) = saidBy w p action (formerTraced p depth room (scanOf p))
 
-abbrev pub formerSaid : Parts → ℕ → Said
-formerSaid p room = formerSaidAt p room (decoded (p .code) (p .members) (p .memberCount) (p .fault))
+abbrev pub formerSaid : Wording → Parts → ℕ → Said
+formerSaid w p room = formerSaidAt w p room (decoded (p .code) (p .members) (p .memberCount) (p .fault))
 
-abbrev pub formerAnswer : List ℕ → ℕ → ℕ → Case → Report
-formerAnswer bytes room outRoom (cases.Parts places) = answerBy (formerSaid (partsOf bytes places) room) outRoom
-formerAnswer bytes room outRoom (cases.Wrong offset) = report.Broken offset
-formerAnswer bytes room outRoom cases.TooLong = report.TooLong
+abbrev pub formerAnswer : Wording → List ℕ → ℕ → ℕ → Case → Report
+formerAnswer w bytes room outRoom (cases.Parts places) = answerBy (formerSaid w (partsOf bytes places) room) outRoom
+formerAnswer w bytes room outRoom (cases.Wrong offset) = report.Broken offset
+formerAnswer w bytes room outRoom cases.TooLong = report.TooLong
 
-abbrev pub formerOutput : List ℕ → ℕ → List ℕ → Case → List ℕ
-formerOutput bytes room out (cases.Parts places) = outputBy (formerSaid (partsOf bytes places) room) out
-formerOutput bytes room out (cases.Wrong offset) = out
-formerOutput bytes room out cases.TooLong = out
+abbrev pub formerOutput : Wording → List ℕ → ℕ → List ℕ → Case → List ℕ
+formerOutput w bytes room out (cases.Parts places) = outputBy (formerSaid w (partsOf bytes places) room) out
+formerOutput w bytes room out (cases.Wrong offset) = out
+formerOutput w bytes room out cases.TooLong = out
 
 -- ---- the statement
 
@@ -78,12 +80,14 @@ pub record PresentUnmoved : Type 0 where
   pub walks :
       (code members : List ℕ) → AreBytes code → length code ≤ 2 ^ 48 → (count leader fault room : ℕ) →
       walkAnswer (blockWalk code members count leader fault room) ≡ walkAnswer (formerWalk code members count leader fault room)
-  -- what is said of parts with such a code
-  pub said : (p : Parts) → AreBytes (p .code) → length (p .code) ≤ 2 ^ 48 → (room : ℕ) → saidOf p room ≡ formerSaid p room
+  -- what is said of parts with such a code, in any wording
+  pub said :
+      (w : Wording) (p : Parts) → AreBytes (p .code) → length (p .code) ≤ 2 ^ 48 → (room : ℕ) →
+      saidIn (mannerOf Document w) p room ≡ formerSaid w p room
   -- and so of every case, whatever is lent: the answer, and the output at exit
   pub answers :
-      (bytes : List ℕ) → AreBytes bytes → (room outRoom : ℕ) →
-      reportOf bytes room outRoom ≡ formerAnswer bytes room outRoom (caseOf bytes)
+      (w : Wording) (bytes : List ℕ) → AreBytes bytes → (room outRoom : ℕ) →
+      reportIn (mannerOf Document w) bytes room outRoom ≡ formerAnswer w bytes room outRoom (caseOf bytes)
   pub outputs :
-      (bytes : List ℕ) → AreBytes bytes → (room : ℕ) (out : List ℕ) →
-      reportedIn bytes room out ≡ formerOutput bytes room out (caseOf bytes)
+      (w : Wording) (bytes : List ℕ) → AreBytes bytes → (room : ℕ) (out : List ℕ) →
+      reportedBy (mannerOf Document w) bytes room out ≡ formerOutput w bytes room out (caseOf bytes)

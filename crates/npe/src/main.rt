@@ -1,11 +1,15 @@
 // Reads one case from standard input and prints one line: the answer, the kind, the two counts, and the message or the number
-// that the answer carries. The word --full asks for the full model.
+// that the answer carries. Its words say in which model and wording.
+mod asked;
+
 use answer::Report;
-use check::same;
+use asked::State;
+use asked::read_words;
 use libc::STDERR_FILENO;
 use libc::STDIN_FILENO;
 use libc::STDOUT_FILENO;
 use report::Manner;
+use words::Named;
 
 // What reading the input answers.
 enum Input {
@@ -92,28 +96,20 @@ fn report_input(manner: Manner) {
     }
 }
 
-// Whether the program's word at a place is this one.
-fn is_word(at: usize, word: &[u8]) -> bool {
-    let mut buffer = [0u8; 32];
-    let size = os::arg(at, &mut buffer);
-    same(items::part_at(&buffer, 0, size), word)
-}
-
-// The first word is the program's name.
+// A wording that is none is answered before the case is read.
 fn main() {
-    let words = os::arg_count();
-    if words < 2 {
-        report_input(report::document_manner());
+    let asked = read_words();
+    let state = asked.state;
+    let State::Whole = state else {
+        io::write_all(
+            STDERR_FILENO,
+            b"npe: npe [--full] [--wording N] reads one case from standard input\n",
+        );
         return;
+    };
+    let model = asked.model;
+    match words::wording_by(asked.wording) {
+        Named::Known(wording) => report_input(Manner { model, wording }),
+        Named::Unknown => print_line(Report::NoWording, b""),
     }
-    if words == 2 {
-        if is_word(1, b"--full") {
-            report_input(report::full_manner());
-            return;
-        }
-    }
-    io::write_all(
-        STDERR_FILENO,
-        b"npe: npe [--full] reads one case from standard input\n",
-    );
 }

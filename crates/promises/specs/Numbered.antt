@@ -29,5 +29,5 @@ pub record PromisesNumbered : Type 0 where
   pub case : SamePromise caseNumbered
   -- `simulate_block`, `simulate_block_in`
   pub walk : SamePromise walkNumbered
-  -- `build_message`, `report_parts`, and both in a manner
+  -- `build_message`, `report_parts`, both in a manner, and `build_message_worded`
   pub report : SamePromise reportNumbered

@@ -18,7 +18,7 @@ use told::Told;
 ghost use Prim.Native.Nat.{_≤_};
 
 // The kinds of rows. The comments at the functions say what the fields are.
-fn kinds() -> [u8; 838] {
+fn kinds() -> [u8; 908] {
     *b"type xa |0 # |$;# |$\n\
       method xa |0 # |$;# |$\n\
       digest xab |#\n\
@@ -38,8 +38,11 @@ fn kinds() -> [u8; 838] {
       walk-full -xabc |height #, count # |$;fails, count # |$;no room at # |$\n\
       report xab |$\n\
       report-full xab |$\n\
+      report-in xabcd |$\n\
+      report-unnamed xab |$\n\
       example fg |as stored;$\n\
-      example-full fg |as stored;$\n"
+      example-full fg |as stored;$\n\
+      example-in fgcd |as stored;$\n"
 }
 
 // What the library answers to the fields of a row of a kind. A text that goes with it is in the output, which has dots at first.
@@ -59,7 +62,7 @@ fn tell(
     if kind < 17 {
         return code_rows::tell(out, kind, x, y, a, b, c, d);
     }
-    report_rows::tell(out, kind, x, y, a, b)
+    report_rows::tell(out, kind, x, y, a, b, c, d)
 }
 
 // Whether the library answers what a row says, given the row that holds its members and a buffer as long as a case may be.

@@ -40,7 +40,7 @@ module _ (manner : Manner) (p : Parts) (room : ℕ) (out : List ℕ) where
         traced (manner .model) (p .code) (p .members) (p .memberCount) (p .fault) depth room ≡ Traced scan block cause →
         (instance : Bool) → instance ≡ isInstance (p .flags) → (answer : Report) (left : List ℕ) →
         Delivered
-        (said (messageText (p .members) (p .memberCount) action cause (p .records) (p .recordCount) (p .signature) instance)
+        (said (messageText (manner .wording) (p .members) (p .memberCount) action cause (p .records) (p .recordCount) (p .signature) instance)
         (kindOf cause) scan block)
         out answer left →
         Reports answer left

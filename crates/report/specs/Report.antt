@@ -1,5 +1,5 @@
--- The report of a case (document 01, "Numbers returned"): its answer, the output and the stack at exit. It is asked for in a manner, the
--- model of its walk (document 02, request 1); document 01's is the one that a call gets that names none.
+-- The report of a case (document 01, "Numbers returned"): its answer, the output and the stack at exit. It is asked for in a manner: the
+-- model of its walk (document 02, request 1) and the wording of its message (request 11).
 -- Assumes nothing.
 use Prim.Native.Nat.{ℕ}
 use mathlib.Core.List.{List, []}
@@ -25,18 +25,30 @@ use Rattle.answer.specs.declared.Report.{Report}
 use Rattle.answer.specs.declared.Report.the-variants as report
 use Rattle.trace.specs.declared.Trace.{Trace}
 use Rattle.trace.specs.declared.Trace.the-variants as trace
+use Rattle.words.specs.Wording.{wordingBy}
+use Rattle.words.specs.declared.Named.{Named}
+use Rattle.words.specs.declared.Named.the-variants.{Known, Unknown}
+use Rattle.words.specs.declared.Wording.{Wording}
+use Rattle.words.specs.declared.Wording.the-variants.{Byte, ByteBoolean}
 use Rattle.report.specs.declared.Manner.{Manner}
 
--- document 01's manner, and that of the full model
+abbrev pub mannerOf : Model → Wording → Manner
+mannerOf model wording = record { model = model; wording = wording }
+
+-- document 01's own manner
 abbrev pub documentManner : Manner
-documentManner = record { model = Document }
+documentManner = mannerOf Document Byte
+
+-- "A call that names no wording now gets 2": the manner of a call that names nothing, and of one that names the full model alone
+abbrev pub defaultManner : Manner
+defaultManner = mannerOf Document ByteBoolean
 
 abbrev pub fullManner : Manner
-fullManner = record { model = Full }
+fullManner = mannerOf Full ByteBoolean
 
-unfoldable pub messageOf : Parts → Action → Slot → List ℕ
-messageOf p action cause =
-    messageText (p .members) (p .memberCount) action cause (p .records) (p .recordCount) (p .signature) (isInstance (p .flags))
+unfoldable pub messageOf : Wording → Parts → Action → Slot → List ℕ
+messageOf wording p action cause =
+    messageText wording (p .members) (p .memberCount) action cause (p .records) (p .recordCount) (p .signature) (isInstance (p .flags))
 
 -- parts in the order of the code's parameters
 abbrev pub partsBy : ℕ → ℕ → List ℕ → List ℕ → List ℕ → ℕ → List ℕ → ℕ → Parts
@@ -64,13 +76,13 @@ tracedFrom model scan p depth room = tracedBy model (p .code) (p .members) (p .m
 abbrev pub tracedIn : Model → Parts → ℕ → ℕ → Trace
 tracedIn model p depth room = tracedFrom model (scanOf p) p depth room
 
-abbrev pub saidBy : Parts → Action → Trace → Said
-saidBy p action (trace.NoRoom index) = roomless index
-saidBy p action (trace.Traced scan block cause) = said (messageOf p action cause) (kindOf cause) scan block
+abbrev pub saidBy : Wording → Parts → Action → Trace → Said
+saidBy wording p action (trace.NoRoom index) = roomless index
+saidBy wording p action (trace.Traced scan block cause) = said (messageOf wording p action cause) (kindOf cause) scan block
 
 abbrev pub saidFrom : Manner → Scan → Parts → ℕ → Fault → Said
 saidFrom manner scan p room Nothing = silent
-saidFrom manner scan p room (Failed action depth) = saidBy p action (tracedFrom (manner .model) scan p depth room)
+saidFrom manner scan p room (Failed action depth) = saidBy (manner .wording) p action (tracedFrom (manner .model) scan p depth room)
 
 abbrev pub saidAt : Manner → Parts → ℕ → Fault → Said
 saidAt manner p room fault = saidFrom manner (scanOf p) p room fault
@@ -107,3 +119,19 @@ reportOf bytes room outRoom = reportIn documentManner bytes room outRoom
 
 abbrev pub reportedIn : List ℕ → ℕ → List ℕ → List ℕ
 reportedIn bytes room out = reportedBy documentManner bytes room out
+
+-- ---- the wording by its number: "11 for a wording other than 1 or 2, tested first"
+
+abbrev pub answerNamed : Named → Model → List ℕ → ℕ → ℕ → Report
+answerNamed (Known wording) model bytes room outRoom = reportIn (mannerOf model wording) bytes room outRoom
+answerNamed Unknown model bytes room outRoom = report.NoWording
+
+abbrev pub outputNamed : Named → Model → List ℕ → ℕ → List ℕ → List ℕ
+outputNamed (Known wording) model bytes room out = reportedBy (mannerOf model wording) bytes room out
+outputNamed Unknown model bytes room out = out
+
+unfoldable pub reportWorded : Model → ℕ → List ℕ → ℕ → ℕ → Report
+reportWorded model number bytes room outRoom = answerNamed (wordingBy number) model bytes room outRoom
+
+unfoldable pub reportedWorded : Model → ℕ → List ℕ → ℕ → List ℕ → List ℕ
+reportedWorded model number bytes room out = outputNamed (wordingBy number) model bytes room out

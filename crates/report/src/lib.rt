@@ -9,31 +9,49 @@ use items::part_at;
 use locals::is_instance;
 use trace::Trace;
 use trace::trace_cause;
+use words::Named;
+use words::Wording;
 ghost use mathlib.Core.Path.{_≡_};
 ghost use lib.ListN.{length, replicate};
 ghost use Rattle.answer.specs.Answer.{Delivered};
-ghost use Rattle.report.specs.Report.{documentManner, fullManner, partsBy, saidIn, saidOf, reportIn, reportedBy, reportOf, reportedIn};
+ghost use Rattle.report.specs.Report.{documentManner, defaultManner, fullManner, partsBy, saidIn, reportIn, reportedBy, reportWorded, reportedWorded};
 
 // How a report is asked for.
 pub struct Manner {
     // What its walk models.
     pub model: Model,
+    // How its message is worded.
+    pub wording: Wording,
 }
 
-// Document 01's manner.
+// Document 01's own manner, by which stored texts go.
 pub fn document_manner() -> Manner
     ensures { λ r. ⌜ r ≡ documentManner ⌝ }
 {
     Manner {
         model: Model::Document,
+        wording: Wording::Byte,
     }
 }
 
-// That of the full model.
+// The manner of a call that names nothing.
+pub fn default_manner() -> Manner
+    ensures { λ r. ⌜ r ≡ defaultManner ⌝ }
+{
+    Manner {
+        model: Model::Document,
+        wording: Wording::ByteBoolean,
+    }
+}
+
+// The manner of a call that names the full model alone.
 pub fn full_manner() -> Manner
     ensures { λ r. ⌜ r ≡ fullManner ⌝ }
 {
-    Manner { model: Model::Full }
+    Manner {
+        model: Model::Full,
+        wording: Wording::ByteBoolean,
+    }
 }
 
 // Reports in a manner on the parts of a case: flags and fault, code, signature, and so many members and records.
@@ -66,8 +84,10 @@ pub fn report_parts_in(
         Trace::NoRoom { at: index } => Report::NoRoom { at: index },
         Trace::Traced { scan, block, cause } => {
             let instance = is_instance(flags);
+            let wording = manner.wording;
             write_message(
                 out,
+                wording,
                 members,
                 member_count,
                 action,
@@ -83,7 +103,7 @@ pub fn report_parts_in(
     }
 }
 
-// The same in document 01's manner.
+// The same for a caller who names nothing.
 pub fn report_parts(
     flags: usize,
     at: usize,
@@ -97,13 +117,13 @@ pub fn report_parts(
     out: &mut [u8],
 ) -> Report
     ensures delivers { λ r. ⌜ Delivered
-        (saidOf (partsBy flags at (now (code .entry)) (now (signature .entry)) (now (members .entry)) «member_count»
+        (saidIn defaultManner (partsBy flags at (now (code .entry)) (now (signature .entry)) (now (members .entry)) «member_count»
         (now (records .entry)) «record_count») (length (now (stack .entry))))
         (now (out .entry)) r (now (out .exit)) ⌝ }
     ensures clears { λ r. ⌜ now (stack .exit) ≡ replicate (length (now (stack .entry))) 0 ⌝ }
 {
     report_parts_in(
-        document_manner(),
+        default_manner(),
         flags,
         at,
         code,
@@ -154,11 +174,32 @@ pub fn build_message_in(manner: Manner, case: &[u8], stack: &mut [u64], out: &mu
     }
 }
 
-// The same in document 01's manner.
+// The same for a caller who names nothing.
 pub fn build_message(case: &[u8], stack: &mut [u64], out: &mut [u8]) -> Report
-    ensures answers { λ r. ⌜ r ≡ reportOf (now (case .entry)) (length (now (stack .entry))) (length (now (out .entry))) ⌝ }
-    ensures leaves { λ r. ⌜ now (out .exit) ≡ reportedIn (now (case .entry)) (length (now (stack .entry))) (now (out .entry)) ⌝ }
+    ensures answers { λ r. ⌜ r ≡ reportIn defaultManner (now (case .entry)) (length (now (stack .entry))) (length (now (out .entry))) ⌝ }
+    ensures leaves { λ r. ⌜ now (out .exit) ≡ reportedBy defaultManner (now (case .entry)) (length (now (stack .entry))) (now (out .entry)) ⌝ }
     ensures clears { λ r. ⌜ now (stack .exit) ≡ replicate (length (now (stack .entry))) 0 ⌝ }
 {
-    build_message_in(document_manner(), case, stack, out)
+    build_message_in(default_manner(), case, stack, out)
+}
+
+// The same with the wording by its number; one that names none is refused before anything else is looked at.
+pub fn build_message_worded(
+    model: Model,
+    wording: usize,
+    case: &[u8],
+    stack: &mut [u64],
+    out: &mut [u8],
+) -> Report
+    ensures answers { λ r. ⌜ r ≡ reportWorded model wording (now (case .entry)) (length (now (stack .entry))) (length (now (out .entry))) ⌝ }
+    ensures leaves { λ r. ⌜ now (out .exit) ≡ reportedWorded model wording (now (case .entry)) (length (now (stack .entry))) (now (out .entry)) ⌝ }
+    ensures clears { λ r. ⌜ now (stack .exit) ≡ replicate (length (now (stack .entry))) 0 ⌝ }
+{
+    match words::wording_by(wording) {
+        Named::Known(wording) => build_message_in(Manner { model, wording }, case, stack, out),
+        Named::Unknown => {
+            clear(stack);
+            Report::NoWording
+        }
+    }
 }

@@ -42,10 +42,10 @@ use Rattle.search.specs.Search.{firstMatch}
 use Rattle.locals.specs.Name.{signatureParameter, numberedName, localName}
 use Rattle.action.specs.Action.{actionText}
 use Rattle.message.specs.Message.{causeText, messageText}
-use Rattle.words.specs.Words.{methodText, invokeText}
+use Rattle.words.specs.Words.{elementText, methodText, invokeText, arrayText}
 use Rattle.answer.specs.Answer.{numbered as reported}
 use Rattle.locals.specs.Name.{isInstance}
-use Rattle.report.specs.Report.{messageOf, saidIn, reportIn, reportedBy}
+use Rattle.report.specs.Report.{messageOf, saidIn, reportIn, reportedBy, reportWorded, reportedWorded}
 use Rattle.trace.specs.Trace.{slotFrom, traced}
 use Rattle.rows.specs.Rows.{AllHold, none, _&_, rows}
 
@@ -56,10 +56,10 @@ unfolding rows
     parameters judged slotsOf typesOf typesAt typesFrom fieldTypeAt typeBehind brackets firstFrom firstIn typeSlots returnSlots closing slotsBehind
     parameterNames joined commaed typeNames typeName elementName baseName baseNames bracketPairs className dotted dotOf
     numbered numberOf answer typeReading methodReading parametersAt returnAt typeAt typeIn strictBrackets element isBase unnamedType
-    reported reportIn reportedBy caseOf placesIn tablesAt textAt numberAt numberFrom runBy membersThen recordsThen partsOf
+    reported reportIn reportedBy reportWorded reportedWorded caseOf placesIn tablesAt textAt numberAt numberFrom runBy membersThen recordsThen partsOf
     saidIn decoded depthOf ruleOf actionOf constructs lookupIn memberFound memberAt textPart afterText classOf nameOf
     descriptorOf traced blockWalkIn completed completedFrom walk walkFrom step rowOf addedRow widenedRow fullRowOf fieldSlots fixedLength slotFrom
-    messageOf messageText actionText invokeText methodText causeText localName recordAt recordsIn firstMatch signatureParameter
+    messageOf messageText actionText arrayText elementText invokeText methodText causeText localName recordAt recordsIn firstMatch signatureParameter
     parameterAt startingAt numberedName decimal digits isInstance over
 rows-hold =
     refl & refl & refl & refl & refl & refl & refl & refl & refl & refl & refl & refl
@@ -68,4 +68,6 @@ rows-hold =
     & refl & refl & refl & refl & refl & refl & refl & refl & refl & refl & refl & refl
     & refl & refl & refl & refl & refl & refl & refl & refl & refl & refl & refl & refl
     & refl & refl & refl & refl & refl & refl & refl & refl & refl & refl & refl & refl
-    & refl & refl & refl & refl & refl & refl & none
+    & refl & refl & refl & refl & refl & refl & refl & refl & refl & refl & refl & refl
+    & refl & refl & refl & refl & refl & refl & refl & refl & refl & refl & refl & refl
+    & refl & refl & refl & refl & refl & none

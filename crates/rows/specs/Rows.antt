@@ -22,8 +22,10 @@ use Rattle.jdescriptor.specs.Answer.{answer}
 use Rattle.judging.specs.Judged.{numbered}
 use Rattle.judging.specs.Reading.{typeReading, methodReading}
 use Rattle.answer.specs.Answer.{numbered as reported}
-use Rattle.report.specs.Report.{documentManner, fullManner, reportIn, reportedBy}
+use Rattle.report.specs.Report.{documentManner, defaultManner, fullManner, reportIn, reportedBy, reportWorded, reportedWorded}
 use Rattle.report.specs.declared.Manner.{Manner}
+use Rattle.effects.specs.declared.Model.{Model}
+use Rattle.effects.specs.declared.Model.the-variants.{Document, Full}
 
 -- the bytes of a static method's case with a fault and a code, both short; no signature, no members, no records
 abbrev pub static : ℕ → List ℕ → List ℕ
@@ -102,6 +104,24 @@ storingFar = static 6 (0x2a ∷ 0x0a ∷ 0xc4 ∷ 0x37 ∷ 0x01 ∷ 0x2c ∷ 0xb
 abbrev pub cutFar : ℕ → List ℕ
 cutFar op = static 6 (0xa7 ∷ 0x00 ∷ 0x04 ∷ 0x10 ∷ 0xc4 ∷ op ∷ 0xbe ∷ [])
 
+-- ---- the cases of document 02, request 11
+
+-- aload_0, iconst_0 and an array load; aload_0, iconst_0, iconst_1 and an array store of one slot
+abbrev pub loadingBy : ℕ → List ℕ
+loadingBy op = static 2 (0x2a ∷ 0x03 ∷ op ∷ [])
+
+abbrev pub storingBy : ℕ → List ℕ
+storingBy op = static 3 (0x2a ∷ 0x03 ∷ 0x04 ∷ op ∷ [])
+
+-- aload_0, iconst_1, and an invocation of m in C, which takes a byte
+abbrev pub passingByte : List ℕ
+passingByte =
+    8 ∷ 2 ∷ 5 ∷ 0x2a ∷ 0x04 ∷ 0xb6 ∷ 0x00 ∷ 0x01 ∷ 0 ∷ 1 ∷ 1 ∷ 1 ∷ 1 ∷ 67 ∷ 1 ∷ 109 ∷ 4 ∷ (ascii "(B)V" ++ (0 ∷ []))
+
+-- a load by `baload` from a local that a record names `byte`
+abbrev pub loadingFromByte : List ℕ
+loadingFromByte = 8 ∷ 2 ∷ 3 ∷ 0x2a ∷ 0x03 ∷ 0x33 ∷ 0 ∷ 0 ∷ 1 ∷ 0 ∷ 9 ∷ 0 ∷ 4 ∷ ascii "byte"
+
 -- "Static method, flags 8, fault 1, code 2a b6 00 01 57 b1, signature `m:(Ljava/lang/String;)V`, member 1 method
 -- `java/lang/String` `length` `()I`, no records: 65 bytes"
 abbrev pub example : List ℕ
@@ -127,6 +147,9 @@ pub data Row : Type 0 where
   reportsIn : Manner → List ℕ → ℕ → ℕ → List ℕ → Row
   -- a manner, the bytes of a case, the room of the stack, and the message, in an output of its length
   writesIn : Manner → List ℕ → ℕ → List ℕ → Row
+  -- the same in a model, with the number of a wording
+  reportsWorded : Model → ℕ → List ℕ → ℕ → ℕ → List ℕ → Row
+  writesWorded : Model → ℕ → List ℕ → ℕ → List ℕ → Row
 
 -- in document 01's manner
 abbrev pub reports : List ℕ → ℕ → ℕ → List ℕ → Row
@@ -145,6 +168,8 @@ Holds (methodReads text room told) = numbered (answer (methodReading text) room)
 Holds (typeReads text room told) = numbered (answer (typeReading text) room) ≡ told
 Holds (reportsIn manner bytes room outRoom told) = reported (reportIn manner bytes room outRoom) ≡ told
 Holds (writesIn manner bytes room message) = reportedBy manner bytes room (replicate (length message) 0) ≡ message
+Holds (reportsWorded model number bytes room outRoom told) = reported (reportWorded model number bytes room outRoom) ≡ told
+Holds (writesWorded model number bytes room message) = reportedWorded model number bytes room (replicate (length message) 0) ≡ message
 
 infixr 5 _&_
 pub data AllHold : List Row → Type 0 where
@@ -247,6 +272,34 @@ rows =
     reportsIn fullManner (cutFar 0x15) 8 60 (0 ∷ 28 ∷ 1 ∷ 3 ∷ 1 ∷ []) ∷
     reportsIn fullManner (cutFar 0x19) 8 60 (0 ∷ 28 ∷ 1 ∷ 3 ∷ 0 ∷ []) ∷
     reports (cutFar 0x15) 8 60 (0 ∷ 28 ∷ 1 ∷ 3 ∷ 0 ∷ []) ∷
+    -- document 02, request 11: `baload` and `bastore` in both wordings. Wording 1 has 54 bytes; wording 2 has 62, and its room is judged
+    -- by them
+    reportsWorded Document 1 (loadingBy 0x33) 8 54 (0 ∷ 54 ∷ 2 ∷ 3 ∷ 2 ∷ []) ∷
+    reportsWorded Document 1 (loadingBy 0x33) 8 53 (4 ∷ 54 ∷ []) ∷
+    reportsWorded Document 2 (loadingBy 0x33) 8 54 (4 ∷ 62 ∷ []) ∷
+    reportsWorded Document 2 (loadingBy 0x33) 8 61 (4 ∷ 62 ∷ []) ∷
+    reportsWorded Document 2 (loadingBy 0x33) 8 62 (0 ∷ 62 ∷ 2 ∷ 3 ∷ 2 ∷ []) ∷
+    writesWorded Document 1 (loadingBy 0x33) 8 (ascii "Cannot load from byte array because \"<local0>\" is null") ∷
+    writesWorded Document 2 (loadingBy 0x33) 8 (ascii "Cannot load from byte/boolean array because \"<local0>\" is null") ∷
+    writesWorded Full 1 (storingBy 0x54) 8 (ascii "Cannot store to byte array because \"<local0>\" is null") ∷
+    writesWorded Full 2 (storingBy 0x54) 8 (ascii "Cannot store to byte/boolean array because \"<local0>\" is null") ∷
+    -- a call that names nothing, and one that names the full model alone
+    writesIn defaultManner (loadingBy 0x33) 8 (ascii "Cannot load from byte/boolean array because \"<local0>\" is null") ∷
+    writesIn fullManner (loadingBy 0x33) 8 (ascii "Cannot load from byte/boolean array because \"<local0>\" is null") ∷
+    -- nothing else is worded otherwise: the arrays beside, a parameter, a local
+    writesWorded Document 2 (loadingBy 0x32) 8 (ascii "Cannot load from object array because \"<local0>\" is null") ∷
+    writesWorded Document 2 (loadingBy 0x34) 8 (ascii "Cannot load from char array because \"<local0>\" is null") ∷
+    writesWorded Document 2 (storingBy 0x55) 8 (ascii "Cannot store to char array because \"<local0>\" is null") ∷
+    writesWorded Document 2 passingByte 8 (ascii "Cannot invoke \"C.m(byte)\" because \"<local0>\" is null") ∷
+    writesWorded Document 2 loadingFromByte 8 (ascii "Cannot load from byte/boolean array because \"byte\" is null") ∷
+    -- "11 for a wording other than 1 or 2, tested first": before 2, 1, 3 and 4
+    reportsWorded Document 0 (loadingBy 0x33) 8 62 (11 ∷ []) ∷
+    reportsWorded Full 3 (loadingBy 0x33) 8 62 (11 ∷ []) ∷
+    reportsWorded Document 9 [] 8 62 (11 ∷ []) ∷
+    reportsWorded Document 2 [] 8 62 (2 ∷ 0 ∷ []) ∷
+    reportsWorded Document 3 (static 0 (0xb1 ∷ [])) 8 62 (11 ∷ []) ∷
+    reportsWorded Document 3 (loadingBy 0x33) 0 62 (11 ∷ []) ∷
+    reportsWorded Document 3 (loadingBy 0x33) 8 0 (11 ∷ []) ∷
     -- "strict `()` is 1, `())` is 12, 255 `[` then I passes, 256 is 2."
     methodReads (40 ∷ 41 ∷ []) 4 (1 ∷ []) ∷
     methodReads (40 ∷ 41 ∷ 41 ∷ []) 4 (12 ∷ []) ∷

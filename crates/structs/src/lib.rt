@@ -116,6 +116,7 @@ pub fn report_numbers(answer: Report) -> KorsepalReport
         Report::NoRoom { at } => carried(3, at),
         Report::NoOutput { needed } => carried(4, needed),
         Report::TooLong => carried(5, 0),
+        Report::NoWording => carried(11, 0),
     }
 }
 

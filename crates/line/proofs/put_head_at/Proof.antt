@@ -1,7 +1,7 @@
 -- `line::put_head_at` meets its contract. One arm an answer.
 -- Assumes nothing.
 use borrow.Author.Needs.{needs}
-use Rattle.line.proofs.Heads.{head-of-message, head-of-none, head-of-broken, head-of-roomless, head-of-outless, head-of-long}
+use Rattle.line.proofs.Heads.{head-of-message, head-of-none, head-of-broken, head-of-roomless, head-of-outless, head-of-long, head-of-unworded}
 use Rattle.line.proofs.put_head_at.Statement.{statement}
 use Rattle.line.proofs.put_head_at.Tie as tie
 
@@ -56,6 +56,15 @@ slice-aggregate-put-at-2 c = search needs
 put-at-requires-2 : tie.Need-put-at-requires-2
 put-at-requires-2 c κs = search needs
 
+enum-told-3 : tie.Need-enum-told-3
+enum-told-3 c = search needs
+
+slice-aggregate-put-at-3 : tie.Need-slice-aggregate-put-at-3
+slice-aggregate-put-at-3 c = search needs
+
+put-at-requires-3 : tie.Need-put-at-requires-3
+put-at-requires-3 c κs = search needs
+
 same-length : tie.Need-same-length
 same-length c = search needs
 
@@ -92,6 +101,12 @@ same-length-6 c = search needs
 returns-6 : tie.Need-returns-6
 returns-6 c = rw (c .before .before .before .before .before .enum-told2 .given .1, head-of-long) (c .before .before .put-at2 .ensures)
 
+same-length-7 : tie.Need-same-length-7
+same-length-7 c = search needs
+
+returns-7 : tie.Need-returns-7
+returns-7 c = rw (c .before .before .before .before .before .enum-told3 .given .1, head-of-unworded) (c .before .before .put-at3 .ensures)
+
 pub put-head-at-spec : {M : Type 1} → statement M
 put-head-at-spec =
     tie.close
@@ -113,6 +128,9 @@ put-head-at-spec =
     enum-told-2
     slice-aggregate-put-at-2
     put-at-requires-2
+    enum-told-3
+    slice-aggregate-put-at-3
+    put-at-requires-3
     same-length
     returns
     same-length-2
@@ -124,4 +142,6 @@ put-head-at-spec =
     same-length-5
     returns-5
     same-length-6
-    returns-6)
+    returns-6
+    same-length-7
+    returns-7)

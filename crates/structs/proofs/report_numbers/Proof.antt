@@ -47,6 +47,12 @@ enum-told-2 c = search needs
 carried-requires-5 : tie.Need-carried-requires-5
 carried-requires-5 c κs = search needs
 
+enum-told-3 : tie.Need-enum-told-3
+enum-told-3 c = search needs
+
+carried-requires-6 : tie.Need-carried-requires-6
+carried-requires-6 c κs = search needs
+
 returns : tie.Need-returns
 unfolding numbered
 returns c = rw (c .before .before .before .before .answer .given .1, c .before .before .low-bits .ensures, c .before .low-bits2 .ensures, c .low-bits3 .ensures)
@@ -71,6 +77,10 @@ returns-6 : tie.Need-returns-6
 unfolding numbered
 returns-6 c = rw (c .before .enum-told2 .given .1) (c .carried5 .ensures)
 
+returns-7 : tie.Need-returns-7
+unfolding numbered
+returns-7 c = rw (c .before .enum-told3 .given .1) (c .carried6 .ensures)
+
 pub report-numbers-spec : {M : Type 1} → statement M
 report-numbers-spec =
     tie.close
@@ -89,9 +99,12 @@ report-numbers-spec =
     carried-requires-4
     enum-told-2
     carried-requires-5
+    enum-told-3
+    carried-requires-6
     returns
     returns-2
     returns-3
     returns-4
     returns-5
-    returns-6)
+    returns-6
+    returns-7)

@@ -6,6 +6,7 @@ use mathlib.Core.Path.{_≡_, refl}
 use borrow.Author.Needs.{needs}
 use Rattle.basics.specs.Ascii.{ascii}
 use Rattle.words.specs.Words.{elementText}
+use Rattle.words.specs.declared.Wording.{Wording}
 use Rattle.basics.proofs.Keys.{Unkeyed}
 use Rattle.words.proofs.put_element_at.Statement.{statement}
 use Rattle.words.proofs.put_element_at.Tie as tie
@@ -40,6 +41,9 @@ slice-aggregate-put-at-5 c = search needs
 put-at-requires-5 : tie.Need-put-at-requires-5
 put-at-requires-5 c κs = search needs
 
+put-byte-at-requires : tie.Need-put-byte-at-requires
+put-byte-at-requires c κs = search needs
+
 slice-aggregate-put-at-6 : tie.Need-slice-aggregate-put-at-6
 slice-aggregate-put-at-6 c = search needs
 
@@ -51,12 +55,6 @@ slice-aggregate-put-at-7 c = search needs
 
 put-at-requires-7 : tie.Need-put-at-requires-7
 put-at-requires-7 c κs = search needs
-
-slice-aggregate-put-at-8 : tie.Need-slice-aggregate-put-at-8
-slice-aggregate-put-at-8 c = search needs
-
-put-at-requires-8 : tie.Need-put-at-requires-8
-put-at-requires-8 c κs = search needs
 
 same-length : tie.Need-same-length
 same-length c = search needs
@@ -98,36 +96,36 @@ same-length-6 c = search needs
 
 returns-6 : tie.Need-returns-6
 unfolding elementText
-returns-6 c = rw (c .before .before .before .before .before .match .keys6) (c .before .before .put-at6 .ensures)
+returns-6 c = rw (c .before .before .before .before .match .keys6) (c .before .before .put-byte-at .ensures)
 
 same-length-7 : tie.Need-same-length-7
 same-length-7 c = search needs
 
 returns-7 : tie.Need-returns-7
 unfolding elementText
-returns-7 c = rw (c .before .before .before .before .before .match .keys7) (c .before .before .put-at7 .ensures)
+returns-7 c = rw (c .before .before .before .before .before .match .keys7) (c .before .before .put-at6 .ensures)
 
 same-length-8 : tie.Need-same-length-8
 same-length-8 c = search needs
 
 -- the keys of the arms, the last first
 short-so :
-    (k : ℕ) → Unkeyed ((6 ∷ []) ∷ (5 ∷ []) ∷ (4 ∷ []) ∷ (3 ∷ []) ∷ (2 ∷ []) ∷ (1 ∷ []) ∷ (0 ∷ []) ∷ []) k →
-    elementText k ≡ ascii "short"
+    (wording : Wording) (k : ℕ) → Unkeyed ((6 ∷ []) ∷ (5 ∷ []) ∷ (4 ∷ []) ∷ (3 ∷ []) ∷ (2 ∷ []) ∷ (1 ∷ []) ∷ (0 ∷ []) ∷ []) k →
+    elementText wording k ≡ ascii "short"
 unfolding elementText
-short-so zero rest = absurd (rest .0 .0 .0 .0 .0 .0 .1 refl)
-short-so (suc zero) rest = absurd (rest .0 .0 .0 .0 .0 .1 refl)
-short-so (suc (suc zero)) rest = absurd (rest .0 .0 .0 .0 .1 refl)
-short-so (suc (suc (suc zero))) rest = absurd (rest .0 .0 .0 .1 refl)
-short-so (suc (suc (suc (suc zero)))) rest = absurd (rest .0 .0 .1 refl)
-short-so (suc (suc (suc (suc (suc zero))))) rest = absurd (rest .0 .1 refl)
-short-so (suc (suc (suc (suc (suc (suc zero)))))) rest = absurd (rest .1 refl)
-short-so (suc (suc (suc (suc (suc (suc (suc k))))))) rest = refl
+short-so wording zero rest = absurd (rest .0 .0 .0 .0 .0 .0 .1 refl)
+short-so wording (suc zero) rest = absurd (rest .0 .0 .0 .0 .0 .1 refl)
+short-so wording (suc (suc zero)) rest = absurd (rest .0 .0 .0 .0 .1 refl)
+short-so wording (suc (suc (suc zero))) rest = absurd (rest .0 .0 .0 .1 refl)
+short-so wording (suc (suc (suc (suc zero)))) rest = absurd (rest .0 .0 .1 refl)
+short-so wording (suc (suc (suc (suc (suc zero))))) rest = absurd (rest .0 .1 refl)
+short-so wording (suc (suc (suc (suc (suc (suc zero)))))) rest = absurd (rest .1 refl)
+short-so wording (suc (suc (suc (suc (suc (suc (suc k))))))) rest = refl
 
 returns-8 : tie.Need-returns-8
 returns-8 c =
-    let element = c .before .before .before .before .before .before .before .args .element in
-    rw (short-so element (c .before .before .before .before .before .match .rest)) (c .before .before .put-at8 .ensures)
+    let a = c .before .before .before .before .before .before .before .args in
+    rw (short-so (a .wording) (a .element) (c .before .before .before .before .before .match .rest)) (c .before .before .put-at7 .ensures)
 
 pub put-element-at-spec : {M : Type 1} → statement M
 put-element-at-spec =
@@ -143,12 +141,11 @@ put-element-at-spec =
     put-at-requires-4
     slice-aggregate-put-at-5
     put-at-requires-5
+    put-byte-at-requires
     slice-aggregate-put-at-6
     put-at-requires-6
     slice-aggregate-put-at-7
     put-at-requires-7
-    slice-aggregate-put-at-8
-    put-at-requires-8
     same-length
     returns
     same-length-2

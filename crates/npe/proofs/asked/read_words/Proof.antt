@@ -1,0 +1,51 @@
+-- `npe::asked::read_words` meets its contract. Each turn reads one word.
+-- Assumes nothing.
+use Prim.Native.Nat.{_-_}
+use borrow.Author.Needs.{needs}
+use Rattle.npe.proofs.asked.read_words.Statement.{statement}
+use Rattle.npe.proofs.asked.read_words.Tie as tie
+
+abbrev Inv-loop : tie.InvT-loop
+Inv-loop count asked₀ i₀ asked i = Unit {0}
+
+abbrev μ-loop : tie.MeasureT-loop
+μ-loop count asked₀ i₀ asked i = count - i
+
+arg-count-requires : tie.Need-arg-count-requires Inv-loop μ-loop
+arg-count-requires c κs = search needs
+
+loop-holds : tie.Need-loop-holds Inv-loop μ-loop
+loop-holds c = search needs
+
+word-at-requires : tie.Need-word-at-requires Inv-loop μ-loop
+word-at-requires c κs = search needs
+
+after-word-requires : tie.Need-after-word-requires Inv-loop μ-loop
+after-word-requires c κs = search needs
+
+add-i : tie.Need-add-i Inv-loop μ-loop
+add-i c = search needs
+
+loop-less : tie.Need-loop-less Inv-loop μ-loop
+loop-less c = search needs
+
+loop-again : tie.Need-loop-again Inv-loop μ-loop
+loop-again c = search needs
+
+returns : tie.Need-returns Inv-loop μ-loop
+returns c = search needs
+
+pub read-words-spec : {M : Type 1} → statement M
+read-words-spec =
+    tie.close
+    (tie.spec
+    Inv-loop
+    μ-loop
+    arg-count-requires
+    loop-holds
+    word-at-requires
+    after-word-requires
+    add-i
+    loop-less
+    loop-again
+    returns)

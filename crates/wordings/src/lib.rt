@@ -1,0 +1,1 @@
+// The two wordings of a report beside each other; there is no code here.
