@@ -39,15 +39,16 @@ use Rattle.locals.specs.Name.{isInstance}
 use Rattle.report.specs.Report.{messageOf, saidIn, reportIn, reportedBy}
 use Rattle.trace.specs.Trace.{slotFrom}
 use Rattle.answer.specs.declared.Report.the-variants.{Message, Broken}
+use Rattle.words.specs.declared.Wording.{Wording}
 use Rattle.evidence.specs.Constant.{reading, throwing, readingNull, blank, SmallCases, Lent, Always, Program, Meets, numberOf, NoConstant}
 
-pub small-cases : SmallCases
+pub small-cases : (w : Wording) → SmallCases w
 unfolding reportIn reportedBy caseOf placesIn tablesAt textAt numberAt numberFrom runBy membersThen recordsThen partsOf
     saidIn decoded depthOf ruleOf actionOf blockLeader instructions scanFrom scanCount leadersOf leadersAt branchOf
     answered greatest upTo lengthOf documentLength within bytesOf formatOf blockWalkIn completed completedFrom walk walkFrom step
     rowOf fixedLength slotFrom messageOf messageText actionText causeText localName recordsIn firstMatch
     signatureParameter firstFrom firstIn numberedName decimal digits isInstance over
-small-cases =
+small-cases w =
     record {
       reads = refl;
       readsText = refl;
@@ -72,20 +73,20 @@ lent bytes t =
 
 -- ---- programs
 
-module _ (program : Program) (meets : Meets program) where
+module _ (w : Wording) (program : Program) (meets : Meets w program) where
   reads : program .answer reading cell blank ≡ Message 55 2 2 1
-  reads = meets .answers reading cell blank (lent reading tt) ∙ small-cases .reads
+  reads = meets .answers reading cell blank (lent reading tt) ∙ small-cases w .reads
 
   reads-text :
       program .output reading cell blank ≡ over (ascii "Cannot read the array length because \"<local0>\" is null") blank
-  reads-text = meets .leaves reading cell blank (lent reading tt) ∙ small-cases .readsText
+  reads-text = meets .leaves reading cell blank (lent reading tt) ∙ small-cases w .readsText
 
   one-number : (n : ℕ) → Always (λ bytes stack out. numberOf (program .answer bytes stack out) ≡ n) → ⊥
   unfolding numbered
   one-number n same =
       let message : 0 ≡ n = sym (ap numberOf reads) ∙ same reading cell blank (lent reading tt) in
       let broken : program .answer [] cell blank ≡ Broken 0 =
-      meets .answers [] cell blank (lent [] tt) ∙ small-cases .broken in
+      meets .answers [] cell blank (lent [] tt) ∙ small-cases w .broken in
       let wrong : 2 ≡ n = sym (ap numberOf broken) ∙ same [] cell blank (lent [] tt) in
       absurd (omega arith)
 
@@ -98,7 +99,7 @@ module _ (program : Program) (meets : Meets program) where
       let two : 2 ≡ k = same reading cell blank (lent reading tt) 55 2 2 1 reads in
       let one : 1 ≡ k =
       same readingNull cell blank (lent readingNull tt) 28 1 2 1
-      (meets .answers readingNull cell blank (lent readingNull tt) ∙ small-cases .readsNull) in
+      (meets .answers readingNull cell blank (lent readingNull tt) ∙ small-cases w .readsNull) in
       absurd (omega arith)
 
   one-text :
@@ -110,10 +111,10 @@ module _ (program : Program) (meets : Meets program) where
   one-text text same =
       let first = sym (same reading cell blank (lent reading tt) 55 2 2 1 reads) ∙ reads-text in
       let throws : program .answer throwing cell blank ≡ Message 49 2 2 1 =
-      meets .answers throwing cell blank (lent throwing tt) ∙ small-cases .throws in
+      meets .answers throwing cell blank (lent throwing tt) ∙ small-cases w .throws in
       let second =
       sym (same throwing cell blank (lent throwing tt) 49 2 2 1 throws)
-      ∙ meets .leaves throwing cell blank (lent throwing tt) ∙ small-cases .throwsText in
+      ∙ meets .leaves throwing cell blank (lent throwing tt) ∙ small-cases w .throwsText in
       -- "Cannot r", "Cannot t"
       let z : _≡_ {A = ℕ} 114 116 = ap (λ (l : List ℕ). getD l 7 0) (sym first ∙ second) in
       absurd (omega arith)
@@ -133,13 +134,13 @@ module _ (program : Program) (meets : Meets program) where
       absurd (omega arith)
 
 pub no-constant : NoConstant
-no-constant program meets =
+no-constant w program meets =
     record {
-      number = one-number program meets;
+      number = one-number w program meets;
       answer = λ r same.
-          one-number program meets (numberOf r) (λ bytes stack out l. ap numberOf (same bytes stack out l));
-      kind = one-kind program meets;
-      text = one-text program meets;
-      output = same-output program meets;
-      stack = same-stack program meets;
+          one-number w program meets (numberOf r) (λ bytes stack out l. ap numberOf (same bytes stack out l));
+      kind = one-kind w program meets;
+      text = one-text w program meets;
+      output = same-output w program meets;
+      stack = same-stack w program meets;
     }

@@ -12,7 +12,8 @@ use Rattle.casefile.specs.Parts.{partsOf}
 use Rattle.casefile.specs.Whole.{tablesAt, placesIn, caseOf}
 use Rattle.casefile.specs.declared.Case.the-variants as cases
 use Rattle.effects.specs.Lookup.{lookupIn}
-use Rattle.report.specs.Report.{defaultManner}
+use Rattle.effects.specs.declared.Model.the-variants.{Document}
+use Rattle.report.specs.Report.{mannerOf}
 use Rattle.truth.specs.Condition.{Described}
 use Rattle.evidence.specs.Constant.{reading, blank}
 use Rattle.evidence.specs.Example.{places, NamedByEvidence}
@@ -34,6 +35,6 @@ cites-none pool (suc (suc pc)) below = absurd (omega (arith, below))
 
 pub named-by-evidence : NamedByEvidence
 unfolding partsOf
-named-by-evidence pool =
-    report-is-evidence defaultManner reading places pool 1 blank 55 2 1 (all-below 256 reading tt tt) lies
-    (λ leader scan pc leads here below. cites-none pool pc below) (small-cases .reads)
+named-by-evidence w pool =
+    report-is-evidence (mannerOf Document w) reading places pool 1 blank 55 2 1 (all-below 256 reading tt tt) lies
+    (λ leader scan pc leads here below. cites-none pool pc below) (small-cases w .reads)

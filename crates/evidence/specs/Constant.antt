@@ -1,5 +1,5 @@
--- No constant program meets the contract of `build_message`: none with one answer, one kind or one text, none that leaves
--- the output as it was, and none that leaves the stack as it was.
+-- No constant program meets the contract of a report in document 01's model, in either wording, so none meets that of `build_message`:
+-- none with one answer, one kind or one text, none that leaves the output as it was, and none that leaves the stack as it was.
 -- Assumes nothing.
 use Prim.Native.Nat.{ℕ, _^_, _<_}
 use mathlib.Core.Path.{_≡_}
@@ -8,8 +8,10 @@ use lib.ListN.{length, getD, replicate}
 use Rattle.basics.specs.Ascii.{ascii}
 use Rattle.basics.specs.Bytes.{AreBytes}
 use Rattle.text.specs.Writing.{over}
+use Rattle.effects.specs.declared.Model.the-variants.{Document}
 use Rattle.answer.specs.Answer.{numbered}
-use Rattle.report.specs.Report.{defaultManner, reportIn, reportedBy}
+use Rattle.report.specs.Report.{mannerOf, reportIn, reportedBy}
+use Rattle.words.specs.declared.Wording.{Wording}
 use Rattle.answer.specs.declared.Report.{Report}
 use Rattle.answer.specs.declared.Report.the-variants.{Message, NoMessage, Broken, NoRoom, NoOutput}
 
@@ -34,16 +36,16 @@ returning = 0x08 ∷ 0x00 ∷ 0x01 ∷ 0xb1 ∷ 0x00 ∷ 0x00 ∷ 0x00 ∷ []
 abbrev pub blank : List ℕ
 blank = replicate 60 0
 
-pub record SmallCases : Type 0 where
-  pub reads : reportIn defaultManner reading 1 60 ≡ Message 55 2 2 1
-  pub readsText : reportedBy defaultManner reading 1 blank ≡ over (ascii "Cannot read the array length because \"<local0>\" is null") blank
-  pub throws : reportIn defaultManner throwing 1 60 ≡ Message 49 2 2 1
-  pub throwsText : reportedBy defaultManner throwing 1 blank ≡ over (ascii "Cannot throw exception because \"<local0>\" is null") blank
-  pub readsNull : reportIn defaultManner readingNull 1 60 ≡ Message 28 1 2 1
-  pub returns : reportIn defaultManner returning 1 60 ≡ NoMessage
-  pub broken : reportIn defaultManner [] 1 60 ≡ Broken 0
-  pub stackless : reportIn defaultManner reading 0 60 ≡ NoRoom 0
-  pub outless : reportIn defaultManner reading 1 54 ≡ NoOutput 55
+pub record SmallCases (w : Wording) : Type 0 where
+  pub reads : reportIn (mannerOf Document w) reading 1 60 ≡ Message 55 2 2 1
+  pub readsText : reportedBy (mannerOf Document w) reading 1 blank ≡ over (ascii "Cannot read the array length because \"<local0>\" is null") blank
+  pub throws : reportIn (mannerOf Document w) throwing 1 60 ≡ Message 49 2 2 1
+  pub throwsText : reportedBy (mannerOf Document w) throwing 1 blank ≡ over (ascii "Cannot throw exception because \"<local0>\" is null") blank
+  pub readsNull : reportIn (mannerOf Document w) readingNull 1 60 ≡ Message 28 1 2 1
+  pub returns : reportIn (mannerOf Document w) returning 1 60 ≡ NoMessage
+  pub broken : reportIn (mannerOf Document w) [] 1 60 ≡ Broken 0
+  pub stackless : reportIn (mannerOf Document w) reading 0 60 ≡ NoRoom 0
+  pub outless : reportIn (mannerOf Document w) reading 1 54 ≡ NoOutput 55
 
 -- ---- programs
 
@@ -63,10 +65,10 @@ pub record Program : Type 0 where
   pub output : List ℕ → List ℕ → List ℕ → List ℕ
   pub stack : List ℕ → List ℕ → List ℕ → List ℕ
 
--- the contract of `build_message`
-pub record Meets (program : Program) : Type 0 where
-  pub answers : Always (λ bytes stack out. program .answer bytes stack out ≡ reportIn defaultManner bytes (length stack) (length out))
-  pub leaves : Always (λ bytes stack out. program .output bytes stack out ≡ reportedBy defaultManner bytes (length stack) out)
+-- the contract of a report in document 01's model and a wording; that of `build_message` is wording 2's
+pub record Meets (w : Wording) (program : Program) : Type 0 where
+  pub answers : Always (λ bytes stack out. program .answer bytes stack out ≡ reportIn (mannerOf Document w) bytes (length stack) (length out))
+  pub leaves : Always (λ bytes stack out. program .output bytes stack out ≡ reportedBy (mannerOf Document w) bytes (length stack) out)
   pub clears : Always (λ bytes stack out. program .stack bytes stack out ≡ replicate (length stack) 0)
 
 -- document 01's number of an answer
@@ -95,4 +97,4 @@ pub record Varied (program : Program) : Type 0 where
   pub stack : Always (λ bytes stack out. program .stack bytes stack out ≡ stack) → ⊥
 
 abbrev pub NoConstant : Type 0
-NoConstant = (program : Program) → Meets program → Varied program
+NoConstant = (w : Wording) (program : Program) → Meets w program → Varied program

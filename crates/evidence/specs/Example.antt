@@ -2,7 +2,9 @@
 -- Assumes nothing.
 use Rattle.jvms.specs.Machine.{Pool}
 use Rattle.casefile.specs.declared.Places.{Places}
-use Rattle.report.specs.Report.{defaultManner}
+use Rattle.effects.specs.declared.Model.the-variants.{Document}
+use Rattle.report.specs.Report.{mannerOf}
+use Rattle.words.specs.declared.Wording.{Wording}
 use Rattle.evidence.specs.Constant.{reading, blank}
 use Rattle.evidence.specs.Evidence.{Reported}
 
@@ -24,6 +26,6 @@ places =
       «record_count» = 0;
     }
 
--- whatever the pool: no instruction of the block cites it
+-- in each wording and whatever the pool: no instruction of the block cites it
 abbrev pub NamedByEvidence : Type 1
-NamedByEvidence = (pool : Pool) → Reported defaultManner reading places pool 1 blank 55 2 1
+NamedByEvidence = (w : Wording) (pool : Pool) → Reported (mannerOf Document w) reading places pool 1 blank 55 2 1
