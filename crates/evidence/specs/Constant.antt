@@ -38,9 +38,11 @@ blank = replicate 60 0
 
 pub record SmallCases (w : Wording) : Type 0 where
   pub reads : reportIn (mannerOf Document w) reading 1 60 ≡ Message 55 2 2 1
-  pub readsText : reportedBy (mannerOf Document w) reading 1 blank ≡ over (ascii "Cannot read the array length because \"<local0>\" is null") blank
+  pub readsText :
+      reportedBy (mannerOf Document w) reading 1 blank ≡ over (ascii "Cannot read the array length because \"<local0>\" is null") blank
   pub throws : reportIn (mannerOf Document w) throwing 1 60 ≡ Message 49 2 2 1
-  pub throwsText : reportedBy (mannerOf Document w) throwing 1 blank ≡ over (ascii "Cannot throw exception because \"<local0>\" is null") blank
+  pub throwsText :
+      reportedBy (mannerOf Document w) throwing 1 blank ≡ over (ascii "Cannot throw exception because \"<local0>\" is null") blank
   pub readsNull : reportIn (mannerOf Document w) readingNull 1 60 ≡ Message 28 1 2 1
   pub returns : reportIn (mannerOf Document w) returning 1 60 ≡ NoMessage
   pub broken : reportIn (mannerOf Document w) [] 1 60 ≡ Broken 0

@@ -1,7 +1,7 @@
 -- "A name must be evidence" (tender, condition 3), of the report itself: where the message names a local, the value that the
 -- faulting instruction would dereference is the one that this local held when it was loaded. So where that value is null, the
--- local was null, as the message says. Of a report in any manner, so in both models and both wordings (document 02: "demand 3
--- holds for both").
+-- local was null, as the message says. Of a report in any manner: "demand 3 holds for both" models (document 02,
+-- request 1), and for both wordings (request 11).
 -- proofs/Evidence.antt has its proof.
 -- As condition 3, it does not cover handler entries: an exception handler that begins inside the block enters it too.
 -- Assumes nothing.
@@ -95,8 +95,8 @@ pub record Reported (manner : Manner) (bytes : List ℕ) (places : Places) (pool
   pub written : reportedBy manner bytes room out ≡ over message out
   pub evidence : Evidence (manner .wording) (partsOf bytes places) pool message scan block
 
--- what `build_message` and `build_message_in` answer and leave, by their contracts: where the kind is 2, the output starts with a message whose name
--- is evidence
+-- what `build_message` and `build_message_in` answer and leave, by their contracts: where the kind is 2, the output starts with a
+-- message whose name is evidence
 abbrev pub ReportIsEvidence : Type 1
 ReportIsEvidence =
     (manner : Manner) (bytes : List ℕ) (places : Places) (pool : Pool) (room : ℕ) (out : List ℕ) (size scan block : ℕ) →

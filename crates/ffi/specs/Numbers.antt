@@ -1,10 +1,10 @@
 -- The C interface over a case: what its functions answer, as structs of numbers (crates/structs), and what they leave in lent slices.
 -- Assumes nothing.
-use Prim.Native.Nat.{ℕ, zero, suc}
+use Prim.Native.Nat.{ℕ}
 use mathlib.Core.List.{List}
 use lib.ListN.{replicate}
 use Rattle.effects.specs.declared.Model.{Model}
-use Rattle.effects.specs.declared.Model.the-variants.{Document, Full}
+use Rattle.effects.specs.declared.Model.the-variants.{Document}
 use Rattle.walk.specs.Room.{Roomed, blockWalkIn, answerOf, cellsOf}
 use Rattle.casefile.specs.Parts.{Parts, partsOf}
 use Rattle.casefile.specs.declared.Case.{Case}
@@ -19,11 +19,6 @@ use Rattle.answer.specs.declared.Report.the-variants.{Broken, TooLong}
 use Rattle.structs.specs.Structs.{walkNumbers, unread, listNumbers}
 use Rattle.structs.specs.declared.KorsepalParameters.{KorsepalParameters}
 use Rattle.structs.specs.declared.KorsepalWalk.{KorsepalWalk}
-
--- the model that a number asks for: 0 document 01's, any other the full one
-abbrev pub modelBy : ℕ → Model
-modelBy zero = Document
-modelBy (suc n) = Full
 
 -- ---- the walk of a case's block in a model, alone
 

@@ -33,9 +33,9 @@ ghost use Rattle.descriptor.specs.declared.Slots.the-variants.{Slots as SlotsOf
 ghost use Rattle.leader.specs.Scan.{blockLeader};
 ghost use Rattle.answer.specs.Answer.{answerBy, outputBy};
 ghost use Rattle.effects.specs.declared.Model.the-variants.{Full};
-ghost use Rattle.report.specs.Report.{defaultManner, fullManner, reportIn, reportedBy, reportWorded, reportedWorded};
+ghost use Rattle.report.specs.Report.{modelBy, defaultManner, fullManner, reportIn, reportedBy, reportWorded, reportedWorded};
 ghost use Rattle.structs.specs.Structs.{reportNumbers, lengthNumbers, leaderNumbers, slotNumbers, nameNumbers, strictNumbers};
-ghost use Rattle.ffi.specs.Numbers.{modelBy, caseWalk, caseCells, caseWalkIn, caseCellsIn, spoken, caseName, caseNamed, parameterNumbers, parametersIn};
+ghost use Rattle.ffi.specs.Numbers.{caseWalk, caseCells, caseWalkIn, caseCellsIn, spoken, caseName, caseNamed, parameterNumbers, parametersIn};
 
 // Reports on a case, over a lent stack and a lent output. A call that names no wording gets 2.
 #[no_mangle]
@@ -67,17 +67,7 @@ pub extern "C" fn korsepal_report_full(
     report_numbers(answer)
 }
 
-// 0 asks for document 01's model, any other number for the full one.
-fn model_by(full: u32) -> Model
-    ensures { λ r. ⌜ r ≡ modelBy full ⌝ }
-{
-    match full {
-        0 => Model::Document,
-        _ => Model::Full,
-    }
-}
-
-// The same in a model and a wording, both by a number.
+// The same in a model, 0 for document 01's and any other number for the full one, and in a wording, by its number.
 #[no_mangle]
 pub extern "C" fn korsepal_report_in(
     full: u32,
@@ -90,7 +80,7 @@ pub extern "C" fn korsepal_report_in(
     ensures leaves { λ r. ⌜ now (output .exit) ≡ reportedWorded (modelBy full) wording (now (case .entry)) (length (now (stack .entry))) (now (output .entry)) ⌝ }
     ensures clears { λ r. ⌜ now (stack .exit) ≡ replicate (length (now (stack .entry))) 0 ⌝ }
 {
-    let model = model_by(full);
+    let model = report::model_by(full as usize);
     let answer = report::build_message_worded(model, wording as usize, case, stack, output);
     report_numbers(answer)
 }

@@ -1,6 +1,6 @@
 -- The line that the program prints (document 01, "Bench rows"): "answer, kind, scan count, block count, then the message for 0 or
 -- the number carried by 2, 3, 4, with single spaces; kind and counts are 0 unless the answer is 0". This is all of it but the
--- message and the newline, by the numbers that document 01 gives the answer (`numbered`).
+-- message and the newline, by the answer's numbers (`numbered`).
 -- Assumes nothing.
 use Prim.Native.Nat.{ℕ}
 use mathlib.Core.List.{List, [], _∷_, _++_}

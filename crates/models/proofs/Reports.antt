@@ -72,7 +72,7 @@ module _ (one other : Manner) (bytes : List ℕ) (room room′ outRoom outRoom�
       by-case (cases.Wrong offset) reads q = q
       by-case cases.TooLong reads q = q
 
-silent-answer : (told : Said) (outRoom : ℕ) → answerBy told outRoom ≡ NoMessage → told ≡ silent
+pub silent-answer : (told : Said) (outRoom : ℕ) → answerBy told outRoom ≡ NoMessage → told ≡ silent
 silent-answer silent outRoom e = refl
 silent-answer (roomless index) outRoom e = let z : _≡_ {A = ℕ} 0 1 = cc in absurd (omega arith)
 silent-answer (said message kind scan block) outRoom e = by-room (leb (length message) outRoom) e
@@ -91,7 +91,7 @@ no-message-alike one other bytes room room′ outRoom outRoom′ =
     ap (λ (told : Said). answerBy told outRoom′)
     (silent-alike one other p room room′ (silent-answer (saidIn one p room) outRoom e)))
 
-roomless-answer : (told : Said) (outRoom index : ℕ) → answerBy told outRoom ≡ NoRoom index → told ≡ roomless index
+pub roomless-answer : (told : Said) (outRoom index : ℕ) → answerBy told outRoom ≡ NoRoom index → told ≡ roomless index
 roomless-answer silent outRoom index e = let z : _≡_ {A = ℕ} 0 1 = cc in absurd (omega arith)
 roomless-answer (roomless at) outRoom index e = let same : at ≡ index = cc in ap roomless same
 roomless-answer (said message kind scan block) outRoom index e = by-room (leb (length message) outRoom) e

@@ -1,6 +1,8 @@
 // What the program's words ask for: --full the full model, --wording and a number that wording. Named twice, the last holds.
 use check::same;
 use effects::Model;
+use words::Named;
+use words::wording_by;
 ghost use Prim.Native.Nat.{_≤_};
 
 // A word as it is read.
@@ -20,7 +22,7 @@ pub enum State {
 
 pub struct Asked {
     pub model: Model,
-    pub wording: usize,
+    pub wording: Named,
     pub state: State,
 }
 
@@ -81,7 +83,7 @@ fn after_word(asked: Asked, word: Word) -> Asked {
         State::Pending => match word {
             Word::Number(number) => Asked {
                 model,
-                wording: number,
+                wording: wording_by(number),
                 state: State::Whole,
             },
             _ => Asked {
@@ -110,12 +112,15 @@ fn after_word(asked: Asked, word: Word) -> Asked {
     }
 }
 
-// What all words ask for; the first is the program's name. Where none is named, it is document 01's model and wording 2.
+// What all words ask for; the first is the program's name. Where nothing is named, it is what a call gets that names nothing.
 pub fn read_words() -> Asked {
     let count = os::arg_count();
+    let unnamed = report::default_manner();
+    let model = unnamed.model;
+    let wording = unnamed.wording;
     let mut asked = Asked {
-        model: Model::Document,
-        wording: 2,
+        model,
+        wording: Named::Known(wording),
         state: State::Whole,
     };
     let mut i = 1;

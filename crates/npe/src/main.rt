@@ -103,12 +103,13 @@ fn main() {
     let State::Whole = state else {
         io::write_all(
             STDERR_FILENO,
-            b"npe: npe [--full] [--wording N] reads one case from standard input\n",
+            b"npe: npe [--full] [--wording N], N 1 or 2, reads one case from standard input\n",
         );
         return;
     };
     let model = asked.model;
-    match words::wording_by(asked.wording) {
+    let wording = asked.wording;
+    match wording {
         Named::Known(wording) => report_input(Manner { model, wording }),
         Named::Unknown => print_line(Report::NoWording, b""),
     }

@@ -93,13 +93,6 @@ fn example(out: &mut [u8], model: Model, wording: usize, case: &[u8], stored: &[
     told_with(end, 1, 0, 0, 0)
 }
 
-fn model_by(full: usize) -> Model {
-    match full {
-        0 => Model::Document,
-        _ => Model::Full,
-    }
-}
-
 // What the library answers to a row about a case. A kind that is none of these has no answer.
 pub fn tell(
     out: &mut [u8],
@@ -114,11 +107,11 @@ pub fn tell(
     match kind {
         17 => report(out, Model::Document, 1, x, a, b),
         18 => report(out, Model::Full, 1, x, a, b),
-        19 => report(out, model_by(c), d, x, a, b),
+        19 => report(out, report::model_by(c), d, x, a, b),
         20 => report_unnamed(out, x, a, b),
         21 => example(out, Model::Document, 1, x, y),
         22 => example(out, Model::Full, 1, x, y),
-        23 => example(out, model_by(c), d, x, y),
+        23 => example(out, report::model_by(c), d, x, y),
         _ => nothing(),
     }
 }

@@ -1,7 +1,7 @@
 -- The report of a case (document 01, "Numbers returned"): its answer, the output and the stack at exit. It is asked for in a manner: the
 -- model of its walk (document 02, request 1) and the wording of its message (request 11).
 -- Assumes nothing.
-use Prim.Native.Nat.{ℕ}
+use Prim.Native.Nat.{ℕ, zero, suc}
 use mathlib.Core.List.{List, []}
 use Rattle.bytecode.specs.Length.{lengthOf}
 use Rattle.leader.specs.Scan.{blockLeader}
@@ -31,6 +31,11 @@ use Rattle.words.specs.declared.Named.the-variants.{Known, Unknown}
 use Rattle.words.specs.declared.Wording.{Wording}
 use Rattle.words.specs.declared.Wording.the-variants.{Byte, ByteBoolean}
 use Rattle.report.specs.declared.Manner.{Manner}
+
+-- the model that a number asks for: 0 document 01's, any other the full one
+abbrev pub modelBy : ℕ → Model
+modelBy zero = Document
+modelBy (suc n) = Full
 
 abbrev pub mannerOf : Model → Wording → Manner
 mannerOf model wording = record { model = model; wording = wording }

@@ -14,7 +14,7 @@ use words::Wording;
 ghost use mathlib.Core.Path.{_≡_};
 ghost use lib.ListN.{length, replicate};
 ghost use Rattle.answer.specs.Answer.{Delivered};
-ghost use Rattle.report.specs.Report.{documentManner, defaultManner, fullManner, partsBy, saidIn, reportIn, reportedBy, reportWorded, reportedWorded};
+ghost use Rattle.report.specs.Report.{modelBy, documentManner, defaultManner, fullManner, partsBy, saidIn, reportIn, reportedBy, reportWorded, reportedWorded};
 
 // How a report is asked for.
 pub struct Manner {
@@ -24,7 +24,17 @@ pub struct Manner {
     pub wording: Wording,
 }
 
-// Document 01's own manner, by which stored texts go.
+// 0 asks for document 01's model, any other number for the full one.
+pub fn model_by(full: usize) -> Model
+    ensures { λ r. ⌜ r ≡ modelBy full ⌝ }
+{
+    match full {
+        0 => Model::Document,
+        _ => Model::Full,
+    }
+}
+
+// Document 01's own manner: its model and its text.
 pub fn document_manner() -> Manner
     ensures { λ r. ⌜ r ≡ documentManner ⌝ }
 {

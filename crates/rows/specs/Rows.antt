@@ -143,7 +143,7 @@ pub data Row : Type 0 where
   -- a text, the room for numbers, and what the strict reader of a method, or of a type, answers in document 01's numbers
   methodReads : List ℕ → ℕ → List ℕ → Row
   typeReads : List ℕ → ℕ → List ℕ → Row
-  -- a manner, the bytes of a case, the room of the stack and of the output, and the report's answer in document 01's numbers
+  -- a manner, the bytes of a case, the room of the stack and of the output, and the report's answer in the documents' numbers
   reportsIn : Manner → List ℕ → ℕ → ℕ → List ℕ → Row
   -- a manner, the bytes of a case, the room of the stack, and the message, in an output of its length
   writesIn : Manner → List ℕ → ℕ → List ℕ → Row

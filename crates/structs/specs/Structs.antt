@@ -1,5 +1,5 @@
 -- The library's answers as structs of numbers. An answer's number and what it carries are those of the library's own numbering
--- (`numbered`, document 01's numbers); a number that an answer does not carry is 0.
+-- (`numbered`, the documents' numbers); a number that an answer does not carry is 0.
 -- Assumes nothing.
 use Prim.Native.Nat.{ℕ, _-_, _^_, min}
 use mathlib.Core.List.{List}
@@ -38,7 +38,7 @@ nth k numbers = getD numbers k 0
 abbrev pub low : ℕ → ℕ
 low n = min n (2 ^ 32 - 1)
 
--- document 01's answer, and what it carries: the message's length, its kind and counts for 0, one number for 2, 3 and 4
+-- the answer's number, and what it carries: the message's length, its kind and counts for 0, one number for 2, 3 and 4
 abbrev pub reportNumbers : Report → KorsepalReport
 reportNumbers r =
     record {

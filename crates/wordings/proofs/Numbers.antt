@@ -1,6 +1,6 @@
 -- A number names wording 1, wording 2 or none. A report in a manner is never answered 11.
 -- Assumes nothing.
-use Prim.Native.Nat.{ℕ, zero, suc}
+use Prim.Native.Nat.{ℕ}
 use native.Mathlib.Omega.{arith}
 use mathlib.Core.Path.{_≡_, refl, _∙_, sym}
 use mathlib.Core.Bool.{Bool, true, false}
@@ -21,6 +21,7 @@ use Rattle.answer.specs.declared.Report.the-variants.{Message, NoOutput, NoWord
 use Rattle.report.specs.Report.{mannerOf, saidIn, answerOf, reportIn, answerNamed, reportWorded, reportedWorded}
 use Rattle.report.specs.declared.Manner.{Manner}
 use Rattle.words.specs.Wording.{wordingBy}
+use Rattle.words.proofs.Wordings.{unknown}
 use Rattle.words.specs.declared.Named.{Named}
 use Rattle.words.specs.declared.Named.the-variants.{Known, Unknown}
 use Rattle.words.specs.declared.Wording.{Wording}
@@ -30,12 +31,6 @@ use Rattle.evidence.proofs.Evidence.{report-is-evidence}
 use Rattle.wordings.specs.Numbers.{IsWorded, ElevenExactly, CallsWorded, WordedEvidence, WordedIsEvidence}
 
 -- ---- the numbers
-
-unknown : (number : ℕ) → (number ≡ 1 → ⊥) → (number ≡ 2 → ⊥) → wordingBy number ≡ Unknown
-unknown zero one two = refl
-unknown (suc zero) one two = absurd (one refl)
-unknown (suc (suc zero)) one two = absurd (two refl)
-unknown (suc (suc (suc number))) one two = refl
 
 known : (model : Model) (number : ℕ) (wording : Wording) → wordingBy number ≡ Known wording → IsWorded model number wording
 unfolding reportWorded reportedWorded
@@ -106,7 +101,8 @@ module _ (model : Model) (number : ℕ) (bytes : List ℕ) (places : Places) (po
   by-name (Known wording) e answer =
       record {
         wording = wording;
-        is = known model number wording e;
+        named = e;
+        written = known model number wording e .outputs bytes room out;
         evidence = report-is-evidence (mannerOf model wording) bytes places pool room out size scan block are reads described answer;
       }
   by-name Unknown e answer = let z : _≡_ {A = ℕ} 0 1 = cc in absurd (omega arith)

@@ -32,10 +32,8 @@ use Rattle.words.specs.Wording.{byteText}
 use Rattle.words.specs.declared.Wording.{Wording}
 use Rattle.words.specs.declared.Wording.the-variants.{Byte, ByteBoolean}
 use Rattle.models.proofs.Actions.{silent-alike}
-use Rattle.wordings.specs.Word.{first, second, Begins, loading, storing, faulting, ButThatWord, OnlyThatWord}
-
-abbrev fault : Parts → Fault
-fault p = decoded (p .code) (p .members) (p .memberCount) (p .fault)
+use Rattle.models.proofs.Elsewhere.{fault}
+use Rattle.wordings.specs.Word.{inWording1, inWording2, Begins, loading, storing, faulting, ButThatWord, OnlyThatWord}
 
 abbrev causeOf : Parts → Slot → List ℕ
 causeOf p cause = causeText cause (p .records) (p .recordCount) (p .signature) (isInstance (p .flags))
@@ -75,14 +73,14 @@ module _ (model : Model) (p : Parts) (room : ℕ) (begin : List ℕ) (a : Acts (
       (causeOf p cause, sym words ∙ a .words Byte p cause, rw (a .words ByteBoolean p cause, kinds, scans, counts))
 
   by-depth :
-      (d : Depth) → saidAt (first model) p room (failedAt d (a .action)) ≡ said message kind scan block →
+      (d : Depth) → saidAt (inWording1 model) p room (failedAt d (a .action)) ≡ said message kind scan block →
       (behind : List ℕ) × (message ≡ begin ++ ascii "byte array" ++ behind)
-      × (saidAt (second model) p room (failedAt d (a .action))
+      × (saidAt (inWording2 model) p room (failedAt d (a .action))
       ≡ said (begin ++ ascii "byte/boolean array" ++ behind) kind scan block)
   by-depth nowhere told = let z : _≡_ {A = ℕ} 0 1 = cc in absurd (omega arith)
   by-depth (at d) told = by-trace (tracedIn model p d room) told
 
-  that-word : saidIn (first model) p room ≡ said message kind scan block → ButThatWord model p room begin message kind scan block
+  that-word : saidIn (inWording1 model) p room ≡ said message kind scan block → ButThatWord model p room begin message kind scan block
   unfolding saidIn
   that-word told =
       let found = by-depth (depthOf (lookupIn (p .members) (p .memberCount)) (p .code) (p .fault)) (rw decodes at told) in
@@ -127,7 +125,7 @@ module _ (p : Parts) where
   module _ (model : Model) (room : ℕ) where
     -- what is said of a fault is the same
     unfoldable Same : Fault → Type 0
-    Same f = saidAt (second model) p room f ≡ saidAt (first model) p room f
+    Same f = saidAt (inWording2 model) p room f ≡ saidAt (inWording1 model) p room f
 
     by-cause : (action : Action) → Alike action → (t : Trace) → saidBy ByteBoolean p action t ≡ saidBy Byte p action t
     unfolding messageOf messageText Alike
@@ -140,7 +138,7 @@ module _ (p : Parts) where
     by-action action same nowhere = refl
     by-action action same (at d) = by-cause action same (tracedIn model p d room)
 
-    same-said : (faulting p ≡ 51 → ⊥) → (faulting p ≡ 84 → ⊥) → saidIn (second model) p room ≡ saidIn (first model) p room
+    same-said : (faulting p ≡ 51 → ⊥) → (faulting p ≡ 84 → ⊥) → saidIn (inWording2 model) p room ≡ saidIn (inWording1 model) p room
     unfolding saidIn decoded Same
     same-said load store =
         let index = u16At (p .code) (p .fault + 1) in
@@ -151,15 +149,16 @@ module _ (p : Parts) where
 
     -- ---- no room
 
-    lacking-trace : (action : Action) (t : Trace) (index : ℕ) → saidBy Byte p action t ≡ roomless index → saidBy ByteBoolean p action t ≡ roomless index
+    lacking-trace :
+        (action : Action) (t : Trace) (index : ℕ) → saidBy Byte p action t ≡ roomless index → saidBy ByteBoolean p action t ≡ roomless index
     lacking-trace action (NoRoom other) index e = e
     lacking-trace action (Traced scan block cause) index e = let z : _≡_ {A = ℕ} 0 1 = cc in absurd (omega arith)
 
-    lacking-fault : (f : Fault) (index : ℕ) → saidAt (first model) p room f ≡ roomless index → saidAt (second model) p room f ≡ roomless index
+    lacking-fault : (f : Fault) (index : ℕ) → saidAt (inWording1 model) p room f ≡ roomless index → saidAt (inWording2 model) p room f ≡ roomless index
     lacking-fault Nothing index e = e
     lacking-fault (Failed action depth) index e = lacking-trace action (tracedIn model p depth room) index e
 
-    lacking-said : (index : ℕ) → saidIn (first model) p room ≡ roomless index → saidIn (second model) p room ≡ roomless index
+    lacking-said : (index : ℕ) → saidIn (inWording1 model) p room ≡ roomless index → saidIn (inWording2 model) p room ≡ roomless index
     unfolding saidIn
     lacking-said index e = lacking-fault (fault p) index e
 
@@ -170,6 +169,6 @@ only-that-word model p room =
       elsewhere = λ other.
           same-said p model room (λ e. other (ascii "Cannot load from ") (rw e loading))
           (λ e. other (ascii "Cannot store to ") (rw e storing));
-      nothing = λ e. silent-alike (first model) (second model) p room room e;
+      nothing = λ e. silent-alike (inWording1 model) (inWording2 model) p room room e;
       lacking = lacking-said p model room;
     }

@@ -16,6 +16,8 @@ use Rattle.effects.specs.declared.Model.{Model}
 use Rattle.effects.specs.declared.Model.the-variants.{Document, Full}
 use Rattle.answer.specs.declared.Report.the-variants.{Message, NoWording}
 use Rattle.report.specs.Report.{mannerOf, defaultManner, fullManner, reportIn, reportedBy, reportOf, reportedIn, reportWorded, reportedWorded}
+use Rattle.words.specs.Wording.{wordingBy}
+use Rattle.words.specs.declared.Named.the-variants.{Known}
 use Rattle.words.specs.declared.Wording.{Wording}
 use Rattle.words.specs.declared.Wording.the-variants.{Byte, ByteBoolean}
 use Rattle.evidence.specs.Evidence.{WellDescribed, Reported}
@@ -67,7 +69,8 @@ pub record CallsWorded : Type 0 where
 pub record WordedEvidence (model : Model) (number : ℕ) (bytes : List ℕ) (places : Places) (pool : Pool) (room : ℕ) (out : List ℕ)
     (size scan block : ℕ) : Type 1 where
   pub wording : Wording
-  pub is : IsWorded model number wording
+  pub named : wordingBy number ≡ Known wording
+  pub written : reportedWorded model number bytes room out ≡ reportedBy (mannerOf model wording) bytes room out
   pub evidence : Reported (mannerOf model wording) bytes places pool room out size scan block
 
 abbrev pub WordedIsEvidence : Type 1

@@ -1,5 +1,5 @@
-// The phrases that a message is made of (document 01, "Action and cause"), written from a place of the output on. Each function
-// answers the place after its text, also where the output ends before it.
+// The phrases that a message is made of (document 01, "Action and cause"), written from a place of the output on, and the wordings that
+// they have (document 02, request 11). A function that writes answers the place after its text, also where the output ends before it.
 use text::put_at;
 ghost use mathlib.Core.Path.{_≡_};
 ghost use Rattle.text.specs.Writing.{Written};
@@ -30,7 +30,7 @@ pub fn wording_by(number: usize) -> Named
 }
 
 // The word for the elements that `baload` and `bastore` move.
-fn put_byte_at(out: &mut [u8], at: usize, wording: Wording) -> usize
+fn put_byte_word_at(out: &mut [u8], at: usize, wording: Wording) -> usize
     ensures { λ r. ⌜ Written at (byteText wording) (now (out .entry)) r (now (out .exit)) ⌝ }
 {
     match wording {
@@ -49,7 +49,7 @@ pub fn put_element_at(out: &mut [u8], at: usize, wording: Wording, element: usiz
         2 => put_at(out, at, b"float"),
         3 => put_at(out, at, b"double"),
         4 => put_at(out, at, b"object"),
-        5 => put_byte_at(out, at, wording),
+        5 => put_byte_word_at(out, at, wording),
         6 => put_at(out, at, b"char"),
         _ => put_at(out, at, b"short"),
     }

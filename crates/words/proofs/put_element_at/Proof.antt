@@ -41,8 +41,8 @@ slice-aggregate-put-at-5 c = search needs
 put-at-requires-5 : tie.Need-put-at-requires-5
 put-at-requires-5 c κs = search needs
 
-put-byte-at-requires : tie.Need-put-byte-at-requires
-put-byte-at-requires c κs = search needs
+put-byte-word-at-requires : tie.Need-put-byte-word-at-requires
+put-byte-word-at-requires c κs = search needs
 
 slice-aggregate-put-at-6 : tie.Need-slice-aggregate-put-at-6
 slice-aggregate-put-at-6 c = search needs
@@ -96,7 +96,7 @@ same-length-6 c = search needs
 
 returns-6 : tie.Need-returns-6
 unfolding elementText
-returns-6 c = rw (c .before .before .before .before .match .keys6) (c .before .before .put-byte-at .ensures)
+returns-6 c = rw (c .before .before .before .before .match .keys6) (c .before .before .put-byte-word-at .ensures)
 
 same-length-7 : tie.Need-same-length-7
 same-length-7 c = search needs
@@ -141,7 +141,7 @@ put-element-at-spec =
     put-at-requires-4
     slice-aggregate-put-at-5
     put-at-requires-5
-    put-byte-at-requires
+    put-byte-word-at-requires
     slice-aggregate-put-at-6
     put-at-requires-6
     slice-aggregate-put-at-7

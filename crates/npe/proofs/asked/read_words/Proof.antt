@@ -14,6 +14,9 @@ abbrev μ-loop : tie.MeasureT-loop
 arg-count-requires : tie.Need-arg-count-requires Inv-loop μ-loop
 arg-count-requires c κs = search needs
 
+default-manner-requires : tie.Need-default-manner-requires Inv-loop μ-loop
+default-manner-requires c κs = search needs
+
 loop-holds : tie.Need-loop-holds Inv-loop μ-loop
 loop-holds c = search needs
 
@@ -42,6 +45,7 @@ read-words-spec =
     Inv-loop
     μ-loop
     arg-count-requires
+    default-manner-requires
     loop-holds
     word-at-requires
     after-word-requires

@@ -1,4 +1,4 @@
--- `ffi::model_by` meets its contract. 0, and what is behind it.
+-- `report::model_by` meets its contract. 0, and what is behind it.
 -- Assumes nothing.
 use Prim.Native.Nat.{ℕ, zero, suc}
 use mathlib.Core.List.{[], _∷_}
@@ -6,9 +6,9 @@ use mathlib.Core.Path.{_≡_, refl, sym}
 use borrow.Author.Needs.{needs}
 use Rattle.basics.proofs.Keys.{Unkeyed}
 use Rattle.effects.specs.declared.Model.the-variants.{Full}
-use Rattle.ffi.specs.Numbers.{modelBy}
-use Rattle.ffi.proofs.model_by.Statement.{statement}
-use Rattle.ffi.proofs.model_by.Tie as tie
+use Rattle.report.specs.Report.{modelBy}
+use Rattle.report.proofs.model_by.Statement.{statement}
+use Rattle.report.proofs.model_by.Tie as tie
 
 returns : tie.Need-returns
 returns c = search needs

@@ -1,8 +1,8 @@
--- `words::put_byte_at` meets its contract. One word for each wording.
+-- `words::put_byte_word_at` meets its contract. One word for each wording.
 -- Assumes nothing.
 use borrow.Author.Needs.{needs}
-use Rattle.words.proofs.put_byte_at.Statement.{statement}
-use Rattle.words.proofs.put_byte_at.Tie as tie
+use Rattle.words.proofs.put_byte_word_at.Statement.{statement}
+use Rattle.words.proofs.put_byte_word_at.Tie as tie
 
 enum-told : tie.Need-enum-told
 enum-told c = search needs
@@ -34,8 +34,8 @@ same-length-2 c = search needs
 returns-2 : tie.Need-returns-2
 returns-2 c = rw (c .before .before .before .before .before .enum-told2 .given .1) (c .before .before .put-at2 .ensures)
 
-pub put-byte-at-spec : {M : Type 1} → statement M
-put-byte-at-spec =
+pub put-byte-word-at-spec : {M : Type 1} → statement M
+put-byte-word-at-spec =
     tie.close
     (tie.spec
     enum-told
