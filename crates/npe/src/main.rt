@@ -1,10 +1,10 @@
 // Reads one case from standard input and prints one line: the answer, the kind, the two counts, and the message or the number
 // that the answer carries. Its words say in which model and wording.
-mod asked;
-
 use answer::Report;
+use asked::Asked;
 use asked::State;
-use asked::read_words;
+use asked::Word;
+use items::part_at;
 use libc::STDERR_FILENO;
 use libc::STDIN_FILENO;
 use libc::STDOUT_FILENO;
@@ -94,6 +94,25 @@ fn report_input(manner: Manner) {
             io::write_all(STDERR_FILENO, b"npe: standard input cannot be read\n");
         }
     }
+}
+
+// The program's word at a place. One that is longer than the buffer is none that it knows.
+fn word_at(at: usize) -> Word {
+    let mut buffer = [0u8; 256];
+    let size = os::arg(at, &mut buffer);
+    asked::read_word(part_at(&buffer, 0, size))
+}
+
+// What all words ask for; the first is the program's name.
+fn read_words() -> Asked {
+    let count = os::arg_count();
+    let mut asked = asked::unasked();
+    let mut i = 1;
+    while i < count {
+        asked = asked::after_word(asked, word_at(i));
+        i += 1;
+    }
+    asked
 }
 
 // A wording that is none is answered before the case is read.

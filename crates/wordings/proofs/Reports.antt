@@ -26,7 +26,7 @@ use Rattle.evidence.proofs.Delivered.{delivers, answer-is, left-is, answered, l
 use Rattle.models.proofs.Actions.{made}
 use Rattle.models.proofs.Reports.{silent-answer, roomless-answer}
 use Rattle.bounds.proofs.Message.{needed-is-length}
-use Rattle.wordings.specs.Word.{inWording1, inWording2, Begins, AtThatWord, OwnLength, Unworded, ReportsThatWord}
+use Rattle.wordings.specs.Word.{inWording1, inWording2, AtThatWord, OwnLength, Unworded, ReportsThatWord}
 use Rattle.wordings.proofs.Word.{only-that-word}
 
 -- ---- a message at one of the two opcodes

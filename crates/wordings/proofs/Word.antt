@@ -7,7 +7,7 @@ use mathlib.Core.Bool.{Bool}
 use mathlib.Core.List.{List, _++_}
 use lib.Dec.{eqb}
 use Rattle.basics.specs.Ascii.{ascii}
-use Rattle.basics.specs.Bytes.{byteAt, u16At}
+use Rattle.basics.specs.Bytes.{u16At}
 use Rattle.basics.specs.Choice.{pick, both, between}
 use Rattle.basics.proofs.Choice.{chosen}
 use Rattle.casefile.specs.Parts.{Parts}

@@ -1,9 +1,9 @@
--- `npe::asked::read_words` meets its contract. Each turn reads one word.
+-- `npe::read_words` meets its contract. Each turn reads one word.
 -- Assumes nothing.
 use Prim.Native.Nat.{_-_}
 use borrow.Author.Needs.{needs}
-use Rattle.npe.proofs.asked.read_words.Statement.{statement}
-use Rattle.npe.proofs.asked.read_words.Tie as tie
+use Rattle.npe.proofs.read_words.Statement.{statement}
+use Rattle.npe.proofs.read_words.Tie as tie
 
 abbrev Inv-loop : tie.InvT-loop
 Inv-loop count asked₀ i₀ asked i = Unit {0}
@@ -14,8 +14,8 @@ abbrev μ-loop : tie.MeasureT-loop
 arg-count-requires : tie.Need-arg-count-requires Inv-loop μ-loop
 arg-count-requires c κs = search needs
 
-default-manner-requires : tie.Need-default-manner-requires Inv-loop μ-loop
-default-manner-requires c κs = search needs
+unasked-requires : tie.Need-unasked-requires Inv-loop μ-loop
+unasked-requires c κs = search needs
 
 loop-holds : tie.Need-loop-holds Inv-loop μ-loop
 loop-holds c = search needs
@@ -45,7 +45,7 @@ read-words-spec =
     Inv-loop
     μ-loop
     arg-count-requires
-    default-manner-requires
+    unasked-requires
     loop-holds
     word-at-requires
     after-word-requires
