@@ -1,5 +1,6 @@
 //! Two builds of the library, an earlier one and this one, over the same cases: what moved. `bench/run against` makes the earlier
-//! archive and renames its functions. The full model is compared where the earlier build has it.
+//! archive and renames its functions. The full model is compared where the earlier build has it. Both are asked in wording 1: a build
+//! that knows no wordings has its text.
 use crate::clock::{alternate, Times};
 use crate::groups::{self, Group};
 use crate::names::{self, Numbered};
@@ -26,50 +27,73 @@ struct Name {
 }
 
 extern "C" {
-    fn korsepal_report(_: *const u8, _: usize, _: *mut u64, _: usize, _: *mut u8, _: usize) -> Report;
-    #[cfg(before_full)]
-    fn korsepal_report_full(_: *const u8, _: usize, _: *mut u64, _: usize, _: *mut u8, _: usize) -> Report;
-    #[cfg(before_full)]
-    fn before_korsepal_report_full(_: *const u8, _: usize, _: *mut u64, _: usize, _: *mut u8, _: usize) -> Report;
+    fn korsepal_report_in(_: u32, _: u32, _: *const u8, _: usize, _: *mut u64, _: usize, _: *mut u8, _: usize) -> Report;
     fn korsepal_local_name(_: *const u8, _: usize, _: u64, _: u64, _: *mut u8, _: usize) -> Name;
+    #[cfg(before_in)]
+    fn before_korsepal_report_in(_: u32, _: u32, _: *const u8, _: usize, _: *mut u64, _: usize, _: *mut u8, _: usize) -> Report;
+    #[cfg(not(before_in))]
     fn before_korsepal_report(_: *const u8, _: usize, _: *mut u64, _: usize, _: *mut u8, _: usize) -> Report;
+    #[cfg(all(before_full, not(before_in)))]
+    fn before_korsepal_report_full(_: *const u8, _: usize, _: *mut u64, _: usize, _: *mut u8, _: usize) -> Report;
     fn before_korsepal_local_name(_: *const u8, _: usize, _: u64, _: u64, _: *mut u8, _: usize) -> Name;
 }
 
-type ReportCall = unsafe extern "C" fn(*const u8, usize, *mut u64, usize, *mut u8, usize) -> Report;
-
-/// A build of the library, by the functions that are timed. Its reports are in each of the models that both builds have.
+/// A build of the library, by the functions that are timed: its report of a case in one of `MODELS`, and the name of a local.
 struct Build {
-    reports: &'static [ReportCall],
+    report: fn(usize, &[u8], &mut Lent) -> Report,
     local_name: unsafe extern "C" fn(*const u8, usize, u64, u64, *mut u8, usize) -> Name,
 }
 
-/// What stands behind a group's name in each of the models.
+/// What stands behind a group's name in each of the models that both builds have.
 #[cfg(not(before_full))]
 const MODELS: [&str; 1] = [""];
-#[cfg(not(before_full))]
-const REPORTS: [[ReportCall; 1]; 2] = [[before_korsepal_report], [korsepal_report]];
 #[cfg(before_full)]
 const MODELS: [&str; 2] = ["", ", full model"];
-#[cfg(before_full)]
-const REPORTS: [[ReportCall; 2]; 2] =
-    [[before_korsepal_report, before_korsepal_report_full], [korsepal_report, korsepal_report_full]];
 
-const BEFORE: Build = Build { reports: &REPORTS[0], local_name: before_korsepal_local_name };
-const NOW: Build = Build { reports: &REPORTS[1], local_name: korsepal_local_name };
+const BEFORE: Build = Build { report: report_before, local_name: before_korsepal_local_name };
+const NOW: Build = Build { report: report_now, local_name: korsepal_local_name };
 
-impl Build {
-    fn report(&self, model: usize, case: &[u8], lent: &mut Lent) -> Report {
-        let (stack, output) = (&mut lent.stack, &mut lent.output);
+/// A call over a case and what is lent, behind its other arguments.
+macro_rules! call {
+    ($function:ident, $case:ident, $lent:ident $(, $argument:expr)*) => {{
+        let Lent { stack, output } = $lent;
         // SAFETY: each pointer goes with the count of its slice, and the slices don't overlap.
         unsafe {
-            (self.reports[model])(case.as_ptr(), case.len(), stack.as_mut_ptr(), stack.len(), output.as_mut_ptr(), output.len())
+            $function(
+                $($argument,)*
+                $case.as_ptr(),
+                $case.len(),
+                stack.as_mut_ptr(),
+                stack.len(),
+                output.as_mut_ptr(),
+                output.len(),
+            )
         }
-    }
+    }};
+}
 
+fn report_now(model: usize, case: &[u8], lent: &mut Lent) -> Report {
+    call!(korsepal_report_in, case, lent, model as u32, 1)
+}
+
+#[cfg(before_in)]
+fn report_before(model: usize, case: &[u8], lent: &mut Lent) -> Report {
+    call!(before_korsepal_report_in, case, lent, model as u32, 1)
+}
+
+#[cfg(not(before_in))]
+fn report_before(model: usize, case: &[u8], lent: &mut Lent) -> Report {
+    match model {
+        #[cfg(before_full)]
+        1 => call!(before_korsepal_report_full, case, lent),
+        _ => call!(before_korsepal_report, case, lent),
+    }
+}
+
+impl Build {
     fn name(&self, numbered: &Numbered, lent: &mut Lent) -> Name {
         let (case, output) = (&numbered.pair.case, &mut lent.output);
-        // SAFETY: as in `report`.
+        // SAFETY: as in `call`.
         unsafe {
             (self.local_name)(case.as_ptr(), case.len(), u64::from(numbered.local), 0, output.as_mut_ptr(), output.len())
         }
@@ -118,7 +142,7 @@ pub fn measure(plan: &Plan, progress: &mut impl FnMut(&str)) -> Vec<Moved> {
         for Group { name, cells, pairs, .. } in &groups {
             let name = format!("{name}{behind}");
             progress(&name);
-            let of = |pair: &Pair| time(plan.rounds, *cells, |build, lent| build.report(model, &pair.case, lent));
+            let of = |pair: &Pair| time(plan.rounds, *cells, |build, lent| (build.report)(model, &pair.case, lent));
             lines.push(Moved::of(name, pairs.iter().map(of).collect()));
         }
     }

@@ -3,7 +3,8 @@
 //! The library starts from the bytes of a case: it reads and checks all of them, and clears the whole lent stack. The Rust starts
 //! from the same bytes, which a plain reader turns into its objects; or, in lines of their own, from prepared objects (the method
 //! with its code and records, the members in hash maps), which it is not charged for. It allocates and frees its sets, lists and
-//! strings. Both end with the message, and a case is timed only where the messages agree.
+//! strings. Both end with the message, and a case is timed only where the messages agree; the library is asked in wording 1, the
+//! Rust's own words.
 //!
 //! `against` times an earlier build of the library and this one over the same cases. Only a driver that has both knows it.
 #[cfg(before)]
@@ -23,6 +24,7 @@ mod plot;
 mod reading;
 mod real;
 mod table;
+mod wordings;
 
 use std::env;
 use std::fs;
@@ -67,6 +69,7 @@ struct Results {
     rows: Vec<groups::Row>,
     parts: Vec<(String, parts::Parts)>,
     in_both: Vec<models::InBoth>,
+    in_wordings: Vec<wordings::InWordings>,
     paces: Vec<models::Pace>,
     alike: Vec<[models::Pace; 2]>,
     widened: Vec<models::Widened>,
@@ -94,6 +97,7 @@ fn measure(plan: &Plan) -> Results {
         rows: groups.iter().flat_map(|group| rows_of(group, plan)).collect(),
         parts: groups.iter().map(|group| (group.name.clone(), parts::of_group(group, 3, &mut progress))).collect(),
         in_both: groups.iter().map(|group| models::of_group(group, plan.rounds, &mut progress)).collect(),
+        in_wordings: groups.iter().map(|group| wordings::of_group(group, plan.rounds, &mut progress)).collect(),
         paces: models::paces(longest, plan.rounds, &mut progress),
         alike: models::alike(longest, plan.rounds, &mut progress),
         widened: models::widened(longest, plan.rounds, &mut progress),
@@ -142,6 +146,10 @@ fn page(plan: &Plan, results: &Results) -> String {
         &table::widened(&results.widened),
         "\nUnits whose locals have one byte, and the same behind `wide`, over as many bytes of code: the full model's walk to the\n",
         "instruction, as above, and its whole report.\n",
+        "\n### Wordings\n\n",
+        &table::in_wordings(&results.in_wordings),
+        "\nReports of the same cases in both wordings, in document 01's model. Reworded are those whose messages differ: the fault is a load\n",
+        "from a byte or boolean array or a store to one. Ratios are medians.\n",
         "\n### Names made of a number\n\n",
         &table::names(&results.names),
         "\nThe name alone, of a local without a record: the library from the bytes of a case, the Rust from prepared objects.\n",

@@ -2,7 +2,7 @@
 use crate::clock::{alone, alternate, Times};
 use crate::groups::Group;
 use crate::made;
-use crate::pair::Lent;
+use crate::pair::{usual, Lent};
 use korsepal::{report_in, walk_in, Answer, Case, Manner, Walk};
 use std::cell::RefCell;
 use std::hint::black_box;
@@ -10,9 +10,9 @@ use std::hint::black_box;
 /// The cells for straight-line code.
 const CELLS: usize = 64;
 
-/// Document 01's model and the full one.
+/// Document 01's model and the full one, in wording 1.
 fn models() -> [Manner; 2] {
-    [Manner::default(), Manner::default().full()]
+    [usual(), usual().full()]
 }
 
 /// A group in both models. Times are of the full one, and as those of the other side of document 01's.
@@ -116,7 +116,7 @@ fn full_reports(wide: &Case, narrow: &Case, rounds: usize) -> Option<Times> {
     let report = |case: &[u8]| {
         let mut lent = lent.borrow_mut();
         let Lent { stack, output } = &mut *lent;
-        black_box(report_in(Manner::default().full(), case, stack, output));
+        black_box(report_in(usual().full(), case, stack, output));
     };
     Some(alternate(rounds, || report(&wide), || report(&narrow)))
 }

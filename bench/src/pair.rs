@@ -1,6 +1,6 @@
 //! One case, ready for both sides: its bytes for the library, prepared objects for the Rust.
 use crate::reading::objects;
-use korsepal::{local_name, report, Answer, Case, Kind, Member, Name};
+use korsepal::{local_name, report_in, Answer, Case, Kind, Manner, Member, Name};
 use oracle_wrapped::{accessors, enter, CodeContext, Info, JavaMethod, LocalVariableInfo, Pool};
 use std::rc::Rc;
 
@@ -14,6 +14,12 @@ impl Lent {
     pub fn cells(cells: usize) -> Lent {
         Lent { stack: vec![0; cells], output: vec![0; 1 << 20] }
     }
+}
+
+/// Document 01's model in wording 1: the Rust's own words. In another wording some messages would differ from the Rust's, and those
+/// cases would not be timed.
+pub fn usual() -> Manner {
+    Manner::default().wording(1)
 }
 
 pub struct Pair {
@@ -46,7 +52,7 @@ impl Pair {
 
     /// The library's answer, from the bytes to the message.
     pub fn library<'a>(&self, lent: &'a mut Lent) -> Answer<'a> {
-        report(&self.case, &mut lent.stack, &mut lent.output)
+        report_in(usual(), &self.case, &mut lent.stack, &mut lent.output)
     }
 
     /// The Rust's answer, from prepared objects to the message.

@@ -6,6 +6,7 @@ use crate::growth::{Curve, Hostile};
 use crate::groups::{median, Row};
 use crate::models::{InBoth, Pace, Widened};
 use crate::parts::Parts;
+use crate::wordings::InWordings;
 
 /// Nanoseconds with their unit, three digits or so.
 pub fn duration(ns: f64) -> String {
@@ -111,6 +112,26 @@ pub fn in_both(groups: &[InBoth]) -> String {
             ratio(median(slower())),
             ratio(slower().fold(0.0, f64::max)),
         ]
+    };
+    laid_out(&head, &groups.iter().map(cells).collect::<Vec<_>>())
+}
+
+/// One line a group: wording 1 and wording 2.
+pub fn in_wordings(groups: &[InWordings]) -> String {
+    let head = ["group", "cases", "wording 1", "wording 2", "2 / 1", "reworded", "wording 1", "wording 2", "2 / 1"];
+    let figures = |times: &[Times]| {
+        if times.is_empty() {
+            return ["-"; 3].map(str::to_string);
+        }
+        [
+            duration(median(times.iter().map(|times| times.other))),
+            duration(median(times.iter().map(|times| times.library))),
+            ratio(median(times.iter().map(|times| times.library / times.other))),
+        ]
+    };
+    let cells = |group: &InWordings| {
+        let all = [group.name.clone(), grouped(group.times.len())].into_iter().chain(figures(&group.times));
+        all.chain([grouped(group.reworded.len())]).chain(figures(&group.reworded)).collect()
     };
     laid_out(&head, &groups.iter().map(cells).collect::<Vec<_>>())
 }

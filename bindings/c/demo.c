@@ -1,5 +1,6 @@
 /* Prints document 01's example, a static method whose parameter is null; then a load of z[i + 1] with z null, in document 01's
- * model, which gives up at the addition, and in the full one, which names z. */
+ * model, which gives up at the addition, and in the full one, which names z; then a load by baload, by a call that names no
+ * wording, in wording 1, and in wording 9, which is none. */
 #include <inttypes.h>
 #include <stdio.h>
 
@@ -18,13 +19,10 @@ static const uint8_t arithmetic[33] = {
     0x44, 0x49, 0x29, 0x44, 0x00, 0x02, 0x00, 0x06, 0x00, 0x01, 0x7a, 0x00, 0x06, 0x01, 0x01, 0x69,
 };
 
-/* A report in either model. */
-typedef korsepal_report_result report(const uint8_t *, size_t, uint64_t *, size_t, uint8_t *, size_t);
+/* aload_0, iconst_0, baload */
+static const uint8_t mask[9] = {0x08, 0x02, 0x03, 0x2a, 0x03, 0x33, 0x00, 0x00, 0x00};
 
-static void print_report(report *in_model, const uint8_t *bytes, size_t count) {
-    uint64_t stack[16] = {0};
-    uint8_t output[256] = {0};
-    korsepal_report_result r = in_model(bytes, count, stack, 16, output, sizeof output);
+static void print_report(korsepal_report_result r, const uint8_t *output) {
     printf("%" PRIu32 " %" PRIu32 " %" PRIu32 " %" PRIu32, r.answer, r.kind, r.scan, r.block);
     if (r.answer == 0) {
         printf(" %.*s", (int)r.value, (const char *)output);
@@ -35,8 +33,13 @@ static void print_report(report *in_model, const uint8_t *bytes, size_t count) {
 }
 
 int main(void) {
-    print_report(korsepal_report, example, sizeof example);
-    print_report(korsepal_report, arithmetic, sizeof arithmetic);
-    print_report(korsepal_report_full, arithmetic, sizeof arithmetic);
+    uint64_t stack[16] = {0};
+    uint8_t output[256] = {0};
+    print_report(korsepal_report(example, sizeof example, stack, 16, output, sizeof output), output);
+    print_report(korsepal_report(arithmetic, sizeof arithmetic, stack, 16, output, sizeof output), output);
+    print_report(korsepal_report_full(arithmetic, sizeof arithmetic, stack, 16, output, sizeof output), output);
+    print_report(korsepal_report(mask, sizeof mask, stack, 16, output, sizeof output), output);
+    print_report(korsepal_report_in(0, 1, mask, sizeof mask, stack, 16, output, sizeof output), output);
+    print_report(korsepal_report_in(0, 9, mask, sizeof mask, stack, 16, output, sizeof output), output);
     return 0;
 }

@@ -5,12 +5,18 @@
  * "Document 01" is the customer's requirements, "document 02" their later requests; the numbers are those of document 01's
  * "Numbers returned". A number that is not named for an answer is 0.
  *
- * A report and a walk are had in one of two models, which the caller chooses by the function's name. Document 01's model gives
- * up at an instruction that it does not list: korsepal_report, korsepal_walk. The full model walks on through arithmetic,
- * conversions, comparisons, stores to arrays and fields, dup_x1 to dup2_x2, monitors and multianewarray (document 02, request
- * 1), and through loads, stores and iinc behind wide (request 7), so it names a null more often: korsepal_report_full,
- * korsepal_walk_full, with the same arguments and results. It too gives up at branches, invokedynamic, wide before any other
- * instruction, and an array of no dimension.
+ * A report and a walk are had in one of two models, which the caller chooses. Document 01's model gives up at an instruction
+ * that it does not list: korsepal_report, korsepal_walk. The full model walks on through arithmetic, conversions, comparisons,
+ * stores to arrays and fields, dup_x1 to dup2_x2, monitors and multianewarray (document 02, request 1), and through loads,
+ * stores and iinc behind wide (request 7), so it names a null more often: korsepal_report_full, korsepal_walk_full, with the
+ * same arguments and results. It too gives up at branches, invokedynamic, wide before any other instruction, and an array of no
+ * dimension.
+ *
+ * A report is in one of two wordings (document 02, request 11). The machine loads from byte arrays and from boolean arrays by one
+ * instruction, baload, and stores to both by bastore. Wording 1, the text of before, says "byte array" there; wording 2 says
+ * "byte/boolean array", and nothing else differs. korsepal_report and korsepal_report_full name no wording and get 2. A caller
+ * that compares messages with stored ones, or with those of an earlier archive, names 1: korsepal_report_in names both the model
+ * and the wording.
  *
  * Results are structs by value, laid out as C lays them out: numbers of 32 bits at 4-byte places, of 64 bits at 8-byte places,
  * in the order written here. Their sizes stand at the end of this file. */
@@ -31,9 +37,12 @@ extern "C" {
  * answer 1: there is no message
  * answer 2: the case breaks its layout; value is the offset of its first wrong item
  * answer 3: the stack lacks room; value is the index of the instruction after which its height exceeds it
- * answer 4: the output lacks room; value is the length needed
+ * answer 4: the output lacks room; value is the length needed, which is that of the wording's own message
  * answer 5: the case has more than 1,048,576 bytes
- * On 1 to 5 the output is unchanged. The stack is all zero after every answer. */
+ * answer 11: there is no such wording; of korsepal_report_in alone
+ * Answers are 0 to 5 and 11. On each but 0 the output is unchanged. The stack is all zero after every answer.
+ *
+ * korsepal_report names nothing: it is in document 01's model and in wording 2. */
 typedef struct {
     uint32_t answer;
     uint32_t kind;
@@ -45,10 +54,16 @@ typedef struct {
 korsepal_report_result korsepal_report(const uint8_t *bytes, size_t bytes_count, uint64_t *stack, size_t stack_count,
                                        uint8_t *output, size_t output_count);
 
-/* The same in the full model. With as much stack and output, a cause that korsepal_report gives is given here in the same words.
- * Answer 3 may come where document 01's model gave up before, at an instruction behind that place. */
+/* The same in the full model, and in wording 2. With as much stack and output, a cause that korsepal_report gives is given here
+ * in the same words. Answer 3 may come where document 01's model gave up before, at an instruction behind that place. */
 korsepal_report_result korsepal_report_full(const uint8_t *bytes, size_t bytes_count, uint64_t *stack, size_t stack_count,
                                             uint8_t *output, size_t output_count);
+
+/* The report in a model and in a wording. full is 0 for document 01's model and any other number for the full one; wording is 1
+ * or 2. Any other wording is answered by 11, before the case is looked at, with kind, scan, block and value 0.
+ * korsepal_report is korsepal_report_in with 0 and 2, korsepal_report_full with 1 and 2. */
+korsepal_report_result korsepal_report_in(uint32_t full, uint32_t wording, const uint8_t *bytes, size_t bytes_count,
+                                          uint64_t *stack, size_t stack_count, uint8_t *output, size_t output_count);
 
 /* The length of the instruction at an index.
  * status 0: length is its bytes, the opcode among them; on 1 and 2 length is 0

@@ -9,7 +9,7 @@ use std::time::Instant;
 const SHOWN: usize = 5;
 
 /// The columns: those of cases, then those of descriptors.
-const COLUMNS: [&str; 16] = [
+const COLUMNS: [&str; 18] = [
     "inputs",
     "cause",
     "action",
@@ -17,6 +17,8 @@ const COLUMNS: [&str; 16] = [
     "full cause",
     "by wide",
     "wide cause",
+    "reworded",
+    "byte stays",
     "broken",
     "too long",
     "reports",
@@ -35,6 +37,8 @@ const CASE_COLUMNS: &[Column] = &[
     Column::FullCause,
     Column::ByWide,
     Column::WideCause,
+    Column::WordedOtherwise,
+    Column::KeptWord,
     Column::Broken,
     Column::TooLong,
     Column::Reports,
@@ -56,9 +60,12 @@ pub enum Column {
     FullCause,
     ByWide,
     WideCause,
+    /// Those whose message wording 2 words otherwise; and those whose message has the word where wording 2 keeps it.
+    WordedOtherwise,
+    KeptWord,
     Broken,
     TooLong,
-    /// Calls that were compared, in both models.
+    /// Calls that were compared, in both models; of reports in both wordings, in none that is named and in numbers that are none.
     Reports,
     Walks,
     Names,
@@ -92,8 +99,9 @@ pub struct Book {
     cases: u64,
     descriptors: u64,
     first: Option<String>,
-    /// The library's answers to reports, in each model.
-    answers: BTreeMap<&'static str, [u64; 2]>,
+    /// The library's answers to reports by their numbers and names: by wording 1 and 2, none named and a number that is none, in each
+    /// model.
+    answers: BTreeMap<(u32, &'static str), [[u64; 2]; 4]>,
     /// The strict readers' answers, 0 and the refusals: as a type, as a method.
     strict: [[u64; 14]; 2],
     begun: Instant,
@@ -156,9 +164,9 @@ impl Book {
         self.counts.get(kind).map_or(0, |counts| counts[column as usize])
     }
 
-    /// Counts an answer of the library in a model by its name.
-    pub fn answer(&mut self, model: Model, name: &'static str) {
-        self.answers.entry(name).or_default()[model as usize] += 1;
+    /// Counts an answer of the library in a model by its number and name, and by how it was asked for.
+    pub fn answer(&mut self, model: Model, asked: usize, number: u32, name: &'static str) {
+        self.answers.entry((number, name)).or_default()[asked][model as usize] += 1;
     }
 
     /// Counts an answer of a strict reader: 0 or a refusal.
@@ -269,9 +277,15 @@ impl Book {
 
     /// The library's answers to reports, and the strict readers' answers.
     fn print_answers(&self) {
-        println!("{:<28} {:>13} {:>9}", "the library's report", "document 01's", "full");
-        for (name, [document, full]) in &self.answers {
-            println!("{name:<28} {document:>13} {full:>9}");
+        print!("{:<28}", "the library's report");
+        for asked in ["wording 1", "wording 2", "none named", "no wording"] {
+            print!(" {asked:>10} {:>9}", "full");
+        }
+        println!();
+        for ((number, name), counts) in &self.answers {
+            print!("{:<28}", format!("answer {number}, {name}"));
+            counts.iter().for_each(|[document, full]| print!(" {document:>10} {full:>9}"));
+            println!();
         }
         println!();
         if self.descriptors > 0 {

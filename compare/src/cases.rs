@@ -4,9 +4,10 @@ use crate::differences::{length, measured, scan, table, Listed, Table};
 use crate::layout::{self, Parts, Record, Wrong};
 use crate::model::{Model, MODELS};
 use crate::random::Random;
-use crate::room::Lender;
+use crate::room::{Asked, Lender};
 use crate::rule::{Facts, Kept, Walked};
 use crate::sides::{quietly, Build, Checked, Holding, Wrapped};
+use crate::wording::{Wording, OTHERS, WORDINGS};
 use korsepal::{Answer, Kind, Leader, LocalRecord, Member, Name, Walk};
 
 /// One case in so many is tried with every stack from none to enough, and one with every output.
@@ -84,9 +85,12 @@ impl Run {
         let (room, output) = (self.random.below(6), self.random.below(40));
         let (leader, fault) = (self.random.below(6) as u64, self.random.below(9) as u64);
         for model in MODELS {
-            self.lender.report(&mut self.book, model, bytes, room, output, answer);
+            for asked in WORDINGS.map(Asked::In).into_iter().chain([Asked::Unnamed]) {
+                self.lender.report(&mut self.book, (model, asked), bytes, (room, output), answer);
+                self.book.count(Column::Reports);
+            }
+            self.no_wording(bytes, model, room, output);
             self.lender.walk(&mut self.book, model, bytes, (leader, fault), room, walk);
-            self.book.count(Column::Reports);
         }
         self.lender.name(&mut self.book, bytes, leader, fault, output, name);
     }
@@ -118,20 +122,30 @@ impl Run {
             let signature = std::str::from_utf8(&parts.signature).expect("it was found to be UTF-8");
             let records: Vec<LocalRecord> = parts.records.iter().map(local_record).collect();
             let lookup = |index: u16, kind: Kind| member(parts, index, kind);
-            let (manner, fault) = (model.manner(), usize::from(parts.fault));
-            let ours = korsepal::build_message_in(manner, parts.flags, &parts.code, signature, lookup, &records, fault);
-            let expected = facts.said(model).message.clone();
-            self.book.expect(bytes, &model.named("build_message"), ours.map(String::into_bytes), expected);
+            let fault = usize::from(parts.fault);
+            for wording in WORDINGS {
+                let manner = model.manner().wording(wording.number());
+                let (flags, code) = (parts.flags, &parts.code);
+                // Without a wording that the library knows it panics.
+                let ours =
+                    quietly(|| korsepal::build_message_in(manner, flags, code, signature, lookup, &records, fault));
+                let ours = ours.as_ref().map(|message| message.as_deref().map(str::as_bytes));
+                let what = format!("build_message, wording {}", wording.number());
+                self.book.expect(bytes, &model.named(&what), ours, Some(facts.said(model).message(wording)));
+            }
         }
     }
 
-    /// In both models the report with enough room, and the walk of the case.
+    /// In both models the reports with enough room, and the walk of the case.
     fn report_and_walk(&mut self, bytes: &[u8], parts: &Parts, facts: &Facts) {
         let panics = self.checked_message(bytes, parts, facts);
         self.count_facts(parts, facts, panics);
         for model in MODELS {
             let said = facts.said(model);
-            self.report(bytes, facts, model, said.highest(), said.length());
+            for wording in WORDINGS {
+                self.report(bytes, facts, (model, Asked::In(wording)), said.highest(), said.length(wording));
+            }
+            self.unworded_reports(bytes, facts, model);
             self.own_walk(bytes, parts, facts, model);
         }
         self.same_cause(bytes, facts);
@@ -139,17 +153,20 @@ impl Run {
 
     /// Counts the case by its answer, and the listed differences that hold of it.
     fn count_facts(&mut self, parts: &Parts, facts: &Facts, checked_panics: bool) {
-        self.book.count(match facts.answer(Model::Document, usize::MAX, usize::MAX) {
+        self.book.count(match facts.answer(Model::Document, Wording::First, usize::MAX, usize::MAX) {
             Answer::Message { kind: 2, .. } => Column::Cause,
             Answer::Message { .. } => Column::Action,
             _ => Column::NoMessage,
         });
-        let in_full = [
+        let opcode = parts.code.get(usize::from(parts.fault)).copied();
+        let others = [
             (facts.has_cause(Model::Full), Column::FullCause),
             (facts.by_wide(&parts.code), Column::ByWide),
             (facts.wide_cause(&parts.code, usize::from(parts.fault)), Column::WideCause),
+            (facts.worded_otherwise(), Column::WordedOtherwise),
+            (facts.keeps_the_word(opcode), Column::KeptWord),
         ];
-        in_full.iter().filter(|(holds, _)| *holds).for_each(|(_, column)| self.book.count(*column));
+        others.iter().filter(|(holds, _)| *holds).for_each(|(_, column)| self.book.count(*column));
         // Where D6 or D7 holds beside others, another message is counted to it, and a panic to them.
         let differs = facts.wrapped_differs && facts.own_rules();
         let listed = [
@@ -169,35 +186,86 @@ impl Run {
         }
     }
 
-    /// The report in a model with enough room, with some, and on a share of the cases with every room from none to enough.
+    /// The reports in a model: in both wordings, by a call that names none, and in a number that is none.
     fn reports(&mut self, bytes: &[u8], facts: &Facts, model: Model) {
-        let (enough, length) = (facts.said(model).highest(), facts.said(model).length());
+        for wording in WORDINGS {
+            self.rooms(bytes, facts, model, wording);
+        }
+        self.unworded_reports(bytes, facts, model);
+        if facts.worded_otherwise() {
+            self.between_lengths(bytes, facts, model);
+        }
+        if model == Model::Full && self.random.once_in(8) {
+            let number = OTHERS[1 + self.random.below(OTHERS.len() - 1)];
+            let wording = WORDINGS[self.random.below(2)];
+            let said = facts.said(model);
+            let asked = (model, Asked::Numbered(number, wording));
+            self.report(bytes, facts, asked, said.highest(), said.length(wording));
+        }
+    }
+
+    /// The report in a model and a wording with enough room, with some, and on a share of the cases with every room from none to enough.
+    fn rooms(&mut self, bytes: &[u8], facts: &Facts, model: Model, wording: Wording) {
+        let asked = (model, Asked::In(wording));
+        let (enough, length) = (facts.said(model).highest(), facts.said(model).length(wording));
         let (more, longer) = (self.random.below(3), self.random.below(5));
-        self.report(bytes, facts, model, enough + more, length + longer);
+        self.report(bytes, facts, asked, enough + more, length + longer);
         if self.random.once_in(3) {
             let (room, output) = (self.random.below(enough + 2), self.random.below(length + 2));
-            self.report(bytes, facts, model, room, output);
+            self.report(bytes, facts, asked, room, output);
         }
         if self.random.once_in(ALL_ROOMS) {
             for room in 0..=enough.min(40) + 1 {
                 for output in [0, 1, length / 2, length.saturating_sub(1), length, length + 1] {
-                    self.report(bytes, facts, model, room, output);
+                    self.report(bytes, facts, asked, room, output);
                 }
             }
         }
         if self.random.once_in(ALL_OUTPUTS) && length < 1_000 {
-            (0..=length + 1).for_each(|output| self.report(bytes, facts, model, enough, output));
+            (0..=length + 1).for_each(|output| self.report(bytes, facts, asked, enough, output));
         }
+    }
+
+    /// The call that names no wording, and a number that is none, with enough room or with some.
+    fn unworded_reports(&mut self, bytes: &[u8], facts: &Facts, model: Model) {
+        let said = facts.said(model);
+        let (mut room, mut output) = (said.highest(), said.length(Wording::Second));
+        if self.random.once_in(3) {
+            (room, output) = (self.random.below(room + 2), self.random.below(output + 2));
+        }
+        self.report(bytes, facts, (model, Asked::Unnamed), room, output);
+        self.no_wording(bytes, model, room, output);
+    }
+
+    /// Where the wordings differ, outputs about the length of each.
+    fn between_lengths(&mut self, bytes: &[u8], facts: &Facts, model: Model) {
+        let said = facts.said(model);
+        let [first, second] = WORDINGS.map(|wording| said.length(wording));
+        for output in [first - 1, first, second - 1, second] {
+            for asked in WORDINGS.map(Asked::In).into_iter().chain([Asked::Unnamed]) {
+                self.report(bytes, facts, (model, asked), said.highest(), output);
+            }
+        }
+    }
+
+    /// A number that is no wording is answered by 11, whatever the case.
+    fn no_wording(&mut self, bytes: &[u8], model: Model, room: usize, output: usize) {
+        let drawn = self.random.next() as u32;
+        let number = if drawn > 2 && self.random.once_in(4) { drawn } else { OTHERS[self.random.below(OTHERS.len())] };
+        let asked = (model, Asked::Other(number));
+        self.lender.report(&mut self.book, asked, bytes, (room, output), Answer::NoWording);
+        self.book.count(Column::Reports);
     }
 
     /// The cause of document 01's model is that of the full one, if there is one and the full one's room is enough.
     fn same_cause(&mut self, bytes: &[u8], facts: &Facts) {
         if facts.has_cause(Model::Document) {
             let rooms = MODELS.map(|model| facts.said(model).highest() + self.random.below(3));
-            let output = facts.said(Model::Document).length();
-            self.lender.same_cause(&mut self.book, bytes, rooms, output);
+            let wording = WORDINGS[self.random.below(2)];
+            let output = facts.said(Model::Document).length(wording);
+            self.lender.same_cause(&mut self.book, wording, bytes, rooms, output);
             let less = self.random.below(rooms[1]);
-            self.lender.same_cause(&mut self.book, bytes, [rooms[0], less], output);
+            self.lender.same_cause(&mut self.book, wording, bytes, [rooms[0], less], output);
         }
     }
 
@@ -210,8 +278,13 @@ impl Run {
         panics
     }
 
-    fn report(&mut self, bytes: &[u8], facts: &Facts, model: Model, room: usize, output: usize) {
-        self.lender.report(&mut self.book, model, bytes, room, output, facts.answer(model, room, output));
+    /// A report in a model, in a wording that is named or not.
+    pub fn report(&mut self, bytes: &[u8], facts: &Facts, asked: (Model, Asked), room: usize, output: usize) {
+        let expected = match asked.1.wording() {
+            Some(wording) => facts.answer(asked.0, wording, room, output),
+            None => Answer::NoWording,
+        };
+        self.lender.report(&mut self.book, asked, bytes, (room, output), expected);
         self.book.count(Column::Reports);
     }
 

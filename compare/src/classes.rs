@@ -90,6 +90,11 @@ pub fn print_shares(book: &Book) {
         counted(Column::WideCause),
         counted(Column::ByWide)
     );
+    println!(
+        "    {} messages are worded otherwise by wording 2; {} have the word byte where it stays",
+        counted(Column::WordedOtherwise),
+        counted(Column::KeptWord)
+    );
 }
 
 fn compare_method(run: &mut Run, seen: &mut Seen, class: &ClassFile, method: &Method) {

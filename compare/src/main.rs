@@ -1,5 +1,6 @@
 //! Compares the library with the Rust that it ports: the same inputs to both, every answer.
 mod book;
+mod calls;
 mod cases;
 mod classes;
 mod classfile;
@@ -17,6 +18,7 @@ mod rule;
 mod sample;
 mod sides;
 mod slots;
+mod wording;
 
 use cases::Run;
 use random::Random;
@@ -26,7 +28,7 @@ use std::path::Path;
 /// What the files of rows open with.
 const SAMPLE: &str = "\
 # A sample of cases and descriptors, of which no listed difference but D6 and D7 holds. The answers are the Rust's own, for D6 and D7
-# with their stand-ins (compare/README.md), written by compare/sample.
+# with their stand-ins (compare/README.md), written by compare/sample. Lines are in wording 1.
 #
 # report | case | count of cells lent | count of bytes lent => the line
 # descriptor | text => the parameters and their slots, the return's slots, and the slots as a field
@@ -182,12 +184,14 @@ fn write_case(path: &str, method: &str, fault: usize) {
     or_end(std::io::stdout().write_all(&bytes), "standard output");
 }
 
-/// Prints the lines of the case in a file by the rules, in document 01's model and in the full one, with the spaces of `npe`.
+/// Prints the lines of the case in a file by the rules, in document 01's model and in the full one, first in wording 1 and then in wording
+/// 2, with the spaces of `npe`.
 fn print_lines(path: &str) {
     let bytes = or_end(std::fs::read(path), path);
-    for model in model::MODELS {
+    let lines = wording::WORDINGS.into_iter().flat_map(|wording| model::MODELS.map(|model| (wording, model)));
+    for (wording, model) in lines {
         let line = match layout::read(&bytes) {
-            Ok(parts) => sample::line(rule::Facts::of(&parts).answer(model, 4_096, 16_384)),
+            Ok(parts) => sample::line(rule::Facts::of(&parts).answer(model, wording, 4_096, 16_384)),
             Err(layout::Wrong::At(at)) => sample::line(korsepal::Answer::Broken { at: at as u64 }),
             Err(layout::Wrong::TooLong) => sample::line(korsepal::Answer::TooLong),
         };

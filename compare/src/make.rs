@@ -19,7 +19,7 @@ pub const KINDS: [(&str, usize, fn(&mut Random) -> Vec<u8>); 6] = [
     ("random bytes", 1, random_bytes),
 ];
 
-const CLASSES: [&[u8]; 12] = [
+const CLASSES: [&[u8]; 13] = [
     b"java/lang/String",
     b"java/lang/Object",
     b"java/lang/StringBuilder",
@@ -30,11 +30,12 @@ const CLASSES: [&[u8]; 12] = [
     b"[J",
     b"[La/b;",
     b"java.lang.String",
+    b"byte",
     b"/",
     "\u{e9}t\u{e9}/\u{65e5}\u{672c}".as_bytes(),
 ];
 
-const NAMES: [&[u8]; 10] = [
+const NAMES: [&[u8]; 12] = [
     b"length",
     b"next",
     b"<init>",
@@ -44,6 +45,8 @@ const NAMES: [&[u8]; 10] = [
     b"a b\n",
     b"get/it",
     b"<init",
+    b"byte",
+    b"Cannot load from byte array",
     "\u{1f600}\u{fc}".as_bytes(),
 ];
 
@@ -296,7 +299,10 @@ impl Maker<'_> {
     /// A dereferencing instruction behind its operands, and its index.
     fn dereference(&mut self) -> usize {
         let opcode = match self.random.below(4) {
-            0 => [46, 47, 48, 49, 50, 51, 52, 53, 79, 80, 81, 82, 83, 84, 85, 86][self.random.below(16)],
+            // Those of byte and boolean arrays are drawn as often as three others.
+            0 => {
+                [46, 47, 48, 49, 50, 51, 51, 51, 52, 53, 79, 80, 81, 82, 83, 84, 84, 84, 85, 86][self.random.below(20)]
+            }
             1 => [180, 181][self.random.below(2)],
             2 => [182, 183, 185][self.random.below(3)],
             _ => [190, 191, 194, 195][self.random.below(4)],
@@ -468,7 +474,7 @@ fn flags(random: &mut Random) -> u16 {
 fn solver_members(random: &mut Random) -> Vec<Member> {
     let mut members = members(random);
     let mut index = members.last().map_or(0, |member| member.index);
-    for descriptor in ["I", "J", "D", "F", "[D", "(D)D", "(DD)V", "(JI)J", "([DI)La/B;"] {
+    for descriptor in ["I", "J", "D", "F", "[D", "(D)D", "(DD)V", "(JI)J", "([DI)La/B;", "(B[ZI)V"] {
         index += random.between(1, 3) as u16;
         let is_method = descriptor.starts_with('(');
         let name = if is_method { b"step".to_vec() } else { b"sum".to_vec() };

@@ -12,7 +12,7 @@ pub enum Model {
 pub const MODELS: [Model; 2] = [Model::Document, Model::Full];
 
 impl Model {
-    /// How the library is asked for it.
+    /// How the library is asked for it. A report is asked for in a wording besides.
     pub fn manner(self) -> Manner {
         match self {
             Model::Document => Manner::default(),

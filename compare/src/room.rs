@@ -1,7 +1,9 @@
 //! The spaces that are lent, full of other things before, and what must stand in them after each answer.
 use crate::book::Book;
+use crate::calls;
 use crate::model::{Model, MODELS};
 use crate::sample::line;
+use crate::wording::Wording;
 use korsepal::{Answer, Name, Walk};
 
 /// What an unwritten cell and an unwritten byte hold.
@@ -10,6 +12,51 @@ const OLD_BYTE: u8 = 0x5a;
 
 /// Cells and bytes behind the lent ones, which must stay as they are.
 const BEHIND: usize = 3;
+
+/// How a report is asked for in a model.
+#[derive(Clone, Copy)]
+pub enum Asked {
+    /// In a wording.
+    In(Wording),
+    /// By the call that names none.
+    Unnamed,
+    /// In a number that is no wording.
+    Other(u32),
+    /// In a wording, the full model by another number than 1.
+    Numbered(u32, Wording),
+}
+
+impl Asked {
+    /// The wording that it gets, if it gets one.
+    pub fn wording(self) -> Option<Wording> {
+        match self {
+            Asked::In(wording) | Asked::Numbered(_, wording) => Some(wording),
+            Asked::Unnamed => Some(Wording::Second),
+            Asked::Other(_) => None,
+        }
+    }
+
+    /// Its place in the tally.
+    fn place(self) -> usize {
+        match self {
+            Asked::In(wording) | Asked::Numbered(_, wording) => wording as usize,
+            Asked::Unnamed => 2,
+            Asked::Other(_) => 3,
+        }
+    }
+
+    /// What is asked for, in words.
+    fn named(self, model: Model, what: &str) -> String {
+        let what = model.named(what);
+        match self {
+            Asked::In(Wording::First) => what,
+            Asked::In(Wording::Second) => format!("{what}, wording 2"),
+            Asked::Unnamed => format!("{what}, no wording named"),
+            Asked::Other(number) => format!("{what}, wording {number}"),
+            Asked::Numbered(full, wording) => format!("{what}, wording {}, full by {full}", wording.number()),
+        }
+    }
+}
 
 /// Memory to lend from.
 #[derive(Default)]
@@ -43,29 +90,50 @@ impl Lender {
         self.bytes.starts_with(first) && self.bytes[first.len()..].iter().all(|&byte| byte == OLD_BYTE)
     }
 
-    /// The library's report in a model, in spaces that hold other things before.
-    fn reported(&mut self, model: Model, case: &[u8], room: usize, output: usize) -> Answer<'_> {
+    /// The library's report in a model as it is asked for, in spaces that hold other things before.
+    fn reported(&mut self, model: Model, asked: Asked, case: &[u8], room: usize, output: usize) -> Answer<'_> {
         self.prepare(room, output);
-        korsepal::report_in(model.manner(), case, &mut self.cells[..room], &mut self.bytes[..output])
+        let (stack, output) = (&mut self.cells[..room], &mut self.bytes[..output]);
+        let in_wording = |number| model.manner().wording(number);
+        match asked {
+            Asked::In(wording) => korsepal::report_in(in_wording(wording.number()), case, stack, output),
+            Asked::Other(number) => korsepal::report_in(in_wording(number), case, stack, output),
+            Asked::Unnamed => calls::unnamed(model, case, stack, output),
+            Asked::Numbered(full, wording) => calls::numbered(full, wording.number(), case, stack, output),
+        }
     }
 
-    /// A report in a model with so much room gives the expected answer, zeros and bytes.
-    pub fn report(&mut self, book: &mut Book, model: Model, case: &[u8], room: usize, output: usize, expected: Answer) {
-        let answer = self.reported(model, case, room, output);
-        book.answer(model, answer_name(&answer));
+    /// A report in a model, asked for so, with so much room of both sorts gives the expected answer, zeros and bytes.
+    pub fn report(
+        &mut self,
+        book: &mut Book,
+        (model, asked): (Model, Asked),
+        case: &[u8],
+        (room, output): (usize, usize),
+        expected: Answer,
+    ) {
+        let answer = self.reported(model, asked, case, room, output);
+        let (number, name) = answer_name(&answer);
+        book.answer(model, asked.place(), number, name);
         if answer != expected {
-            let what = model.named(&format!("report, room {room}, output {output}"));
+            let what = asked.named(model, &format!("report, room {room}, output {output}"));
             book.disagree(case, what, show(answer), show(expected));
         }
         let text = if let Answer::Message { text, .. } = expected { text } else { &[] };
-        book.expect(case, &model.named("stack all zero after a report"), self.cells_are(room, &[]), true);
-        book.expect(case, &model.named("output after a report"), self.bytes_are(text), true);
+        if !self.cells_are(room, &[]) {
+            book.expect(case, &asked.named(model, "stack all zero after a report"), false, true);
+        }
+        if !self.bytes_are(text) {
+            book.expect(case, &asked.named(model, "output after a report"), false, true);
+        }
     }
 
     /// The library by itself: where document 01's model gives a cause with one room, and the full one has room enough with another, both
-    /// give the same line.
-    pub fn same_cause(&mut self, book: &mut Book, case: &[u8], rooms: [usize; 2], output: usize) {
-        let [document, full] = [0, 1].map(|place| line(self.reported(MODELS[place], case, rooms[place], output)));
+    /// give the same line in a wording.
+    pub fn same_cause(&mut self, book: &mut Book, wording: Wording, case: &[u8], rooms: [usize; 2], output: usize) {
+        let asked = Asked::In(wording);
+        let [document, full] =
+            [0, 1].map(|place| line(self.reported(MODELS[place], asked, case, rooms[place], output)));
         if document.starts_with(b"0 2 ") && !full.starts_with(b"3 ") && document != full {
             let shown = |line: &[u8]| String::from_utf8_lossy(line).into_owned();
             book.disagree(case, format!("the same cause, rooms {rooms:?}"), shown(&full), shown(&document));
@@ -137,15 +205,17 @@ impl Lender {
     }
 }
 
-fn answer_name(answer: &Answer) -> &'static str {
+/// The number of an answer, and its name.
+fn answer_name(answer: &Answer) -> (u32, &'static str) {
     match answer {
-        Answer::Message { .. } => "answer 0, message",
-        Answer::NoMessage => "answer 1, no message",
-        Answer::Broken { .. } => "answer 2, broken layout",
-        Answer::NoRoom { .. } => "answer 3, stack too small",
-        Answer::NoOutput { .. } => "answer 4, output too small",
-        Answer::TooLong => "answer 5, too long",
-        _ => "another answer",
+        Answer::Message { .. } => (0, "message"),
+        Answer::NoMessage => (1, "no message"),
+        Answer::Broken { .. } => (2, "broken layout"),
+        Answer::NoRoom { .. } => (3, "stack too small"),
+        Answer::NoOutput { .. } => (4, "output too small"),
+        Answer::TooLong => (5, "too long"),
+        Answer::NoWording => (11, "no such wording"),
+        _ => (u32::MAX, "another"),
     }
 }
 

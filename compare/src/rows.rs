@@ -4,10 +4,12 @@ use crate::cases::Run;
 use crate::descriptors::STRICT_WRAPPED;
 use crate::differences::{measured, return_slots};
 use crate::layout::{self, lay_out, Member, Parts, Record};
-use crate::model::Model;
+use crate::model::{Model, MODELS};
+use crate::room::Asked;
 use crate::rule::Facts;
 use crate::sample::line;
 use crate::sides::{quietly, Build, Checked, Held, Holding, Wrapped};
+use crate::wording::{Wording, WORDINGS};
 use korsepal::Measure;
 
 /// Default 0, low 0, high 1 and two entries.
@@ -160,6 +162,68 @@ fn wide_rows() -> Vec<(Parts, usize, &'static str, &'static str)> {
     ]
 }
 
+/// A load from local 0 by an opcode, or a store to it; a record names the local.
+fn array_access(opcode: u8, name: &[u8]) -> Parts {
+    let code: &[u8] = if opcode < 79 { &[0x2a, 3, opcode] } else { &[0x2a, 3, 3, opcode] };
+    let record = Record { start: 0, length: 9, slot: 0, name: name.to_vec() };
+    Parts { records: vec![record], ..bare(code, code.len() as u16 - 1, b"") }
+}
+
+/// A call of a method that takes a byte and an array of bytes.
+fn call_with_bytes(class: &[u8]) -> Parts {
+    let called = Member::method(1, class, b"m", b"(B[B)V");
+    Parts { members: vec![called], ..bare(&[0x2a, 3, 0x2b, 0xb6, 0, 1], 3, b"") }
+}
+
+/// Rows of document 02, request 11: a case, the bytes lent, and its lines in wording 1 and in wording 2, in both models.
+fn worded_rows() -> Vec<(Parts, usize, [&'static str; 2])> {
+    const FIRST: &str = "0 2 3 2 Cannot load from byte array^0";
+    const SECOND: &str = "0 2 3 2 Cannot load from byte/boolean array^0";
+    let same = |line| [line; 2];
+    let load = || bare(&[0x2a, 3, 51], 2, b"");
+    vec![
+        (load(), 53, ["4 0 0 0 54", "4 0 0 0 62"]),
+        (load(), 54, [FIRST, "4 0 0 0 62"]),
+        (load(), 61, [FIRST, "4 0 0 0 62"]),
+        (load(), 62, [FIRST, SECOND]),
+        (
+            bare(&[0x2a, 3, 3, 84], 3, b""),
+            80,
+            ["0 2 4 3 Cannot store to byte array^0", "0 2 4 3 Cannot store to byte/boolean array^0"],
+        ),
+        // No cause, and no room for it.
+        (
+            bare(&[3, 51], 1, b""),
+            80,
+            ["0 1 2 1 Cannot load from byte array", "0 1 2 1 Cannot load from byte/boolean array"],
+        ),
+        (bare(&[3, 51], 1, b""), 27, ["0 1 2 1 Cannot load from byte array", "4 0 0 0 35"]),
+        // Loads and stores of the other arrays, of locals that are called after the word.
+        (array_access(50, b"byte"), 80, same("0 2 3 2 Cannot load from object array because \"byte\" is null")),
+        (array_access(52, b"byte"), 80, same("0 2 3 2 Cannot load from char array because \"byte\" is null")),
+        (array_access(53, b"byte"), 80, same("0 2 3 2 Cannot load from short array because \"byte\" is null")),
+        (array_access(83, b"byte"), 80, same("0 2 4 3 Cannot store to object array because \"byte\" is null")),
+        (
+            array_access(85, b"byte array"),
+            80,
+            same("0 2 4 3 Cannot store to char array because \"byte array\" is null"),
+        ),
+        (
+            array_access(84, b"byte array"),
+            80,
+            [
+                "0 2 4 3 Cannot store to byte array because \"byte array\" is null",
+                "0 2 4 3 Cannot store to byte/boolean array because \"byte array\" is null",
+            ],
+        ),
+        // Parameters and a class that are called after it.
+        (call_with_bytes(b"C"), 80, same("0 2 4 3 Cannot invoke \"C.m(byte, byte[])\"^0")),
+        (call_with_bytes(b"byte"), 80, same("0 2 4 3 Cannot invoke \"byte.m(byte, byte[])\"^0")),
+        // Nothing is said.
+        (bare(&[0x2a, 3, 51], 1, b""), 80, same("1 0 0 0")),
+    ]
+}
+
 /// The words that `~` and `^N` stand for.
 fn spelled_out(row: &str) -> String {
     let row = row.replace('~', "Cannot read the array length");
@@ -234,8 +298,25 @@ fn compare_row(run: &mut Run, parts: &Parts, room: usize, rows: &[(Model, &str)]
     run.case(&bytes);
     let facts = Facts::of(parts);
     for (model, row) in rows {
-        let said = String::from_utf8(line(facts.answer(*model, room, 128))).expect("the rows are UTF-8");
+        let said =
+            String::from_utf8(line(facts.answer(*model, Wording::First, room, 128))).expect("the rows are UTF-8");
         run.book.expect(&bytes, &model.named("row"), spelled_out(row), said);
+    }
+}
+
+/// The same of a case with so many bytes lent, in both wordings and both models.
+fn compare_worded(run: &mut Run, parts: &Parts, output: usize, rows: [&str; 2]) {
+    let bytes = lay_out(parts);
+    run.book.case("fixed rows");
+    run.case(&bytes);
+    let facts = Facts::of(parts);
+    for model in MODELS {
+        for (wording, row) in WORDINGS.into_iter().zip(rows) {
+            let said = String::from_utf8(line(facts.answer(model, wording, 8, output))).expect("the rows are UTF-8");
+            run.book.expect(&bytes, &model.named("row of both wordings"), spelled_out(row), said);
+            run.report(&bytes, &facts, (model, Asked::In(wording)), 8, output);
+        }
+        run.report(&bytes, &facts, (model, Asked::Unnamed), 8, output);
     }
 }
 
@@ -246,6 +327,14 @@ pub fn compare(run: &mut Run) {
     }
     for (parts, room, document, full) in model_rows().into_iter().chain(wide_rows()) {
         compare_row(run, &parts, room, &[(Model::Document, document), (Model::Full, full)]);
+    }
+    for (parts, output, rows) in worded_rows() {
+        compare_worded(run, &parts, output, rows);
+    }
+    // No case: a byte is missing, and there is one more than a case may have.
+    for bytes in [vec![8, 2, 3, 0x2a, 3, 51, 0, 0], vec![0; layout::LONGEST + 1]] {
+        run.book.case("fixed rows");
+        run.case(&bytes);
     }
     for (code, pc, expected) in length_rows() {
         run.book.case("fixed rows");

@@ -7,6 +7,7 @@ use crate::full::FullWalk;
 use crate::layout::Parts;
 use crate::model::Model;
 use crate::sides::{quietly, Build, Checked, Held, Holding, Origin, Wrapped};
+use crate::wording::{second, stays, Wording};
 use korsepal::{Answer, Walk};
 
 /// No instruction of the Rust's walk is longer.
@@ -130,21 +131,29 @@ impl Kept {
     }
 }
 
-/// What a case comes to in one of the models.
+/// What a case comes to in one of the models: the message in each wording, and the walk.
 pub struct Said {
-    pub message: Option<Vec<u8>>,
+    first: Option<Vec<u8>>,
+    second: Option<Vec<u8>>,
     pub walked: Option<Walked>,
 }
 
 impl Said {
+    pub fn message(&self, wording: Wording) -> Option<&[u8]> {
+        match wording {
+            Wording::First => self.first.as_deref(),
+            Wording::Second => self.second.as_deref(),
+        }
+    }
+
     /// The greatest height of the walk.
     pub fn highest(&self) -> usize {
         self.walked.as_ref().map_or(0, Walked::highest)
     }
 
-    /// The bytes that the message takes, or some.
-    pub fn length(&self) -> usize {
-        self.message.as_ref().map_or(8, Vec::len)
+    /// The bytes that the message takes in a wording, or some.
+    pub fn length(&self, wording: Wording) -> usize {
+        self.message(wording).map_or(8, <[u8]>::len)
     }
 }
 
@@ -214,8 +223,11 @@ impl Facts {
         let may_differ = stands_in || cut.is_some();
         let own_message = if may_differ { Wrapped::over(parts, &whole).message(fault) } else { message.clone() };
         let holding = whole.holding;
-        let said =
-            |message: Option<String>, walked| Said { message: message.map(|text| holding.release(text)), walked };
+        let opcode = code.get(fault).copied();
+        let said = |message: Option<String>, walked| {
+            let first = message.map(|text| holding.release(text));
+            Said { second: first.as_ref().map(|first| second(opcode, first)), first, walked }
+        };
         Facts {
             holding,
             falling: scan.falling,
@@ -264,7 +276,7 @@ impl Facts {
 
     /// The message that the checked build must give where it does not panic.
     pub fn checked_expected(&self) -> Option<Vec<u8>> {
-        let expected = if self.own_rules() { &self.document.message } else { &self.own_message };
+        let expected = if self.own_rules() { &self.document.first } else { &self.own_message };
         expected.clone()
     }
 
@@ -281,8 +293,18 @@ impl Facts {
 
     /// Whether a model gives a cause, where there is room.
     pub fn has_cause(&self, model: Model) -> bool {
-        let message = &self.said(model).message;
+        let message = &self.said(model).first;
         message.is_some() && self.action != *message
+    }
+
+    /// Whether the wordings differ: the fault is a load or a store of byte and boolean arrays.
+    pub fn worded_otherwise(&self) -> bool {
+        self.document.first != self.document.second
+    }
+
+    /// Whether a message has the word of wording 1 where wording 2 must keep it.
+    pub fn keeps_the_word(&self, opcode: Option<u8>) -> bool {
+        self.full.first.as_deref().is_some_and(|first| stays(opcode, first))
     }
 
     /// Whether the full model's walk goes on through `wide`.
@@ -297,10 +319,11 @@ impl Facts {
         origin(depth, self.full.walked.as_ref()).is_some_and(|(_, load)| code[load] == WIDE)
     }
 
-    /// What a report answers in a model, with room for so many slots and bytes.
-    pub fn answer(&self, model: Model, room: usize, output: usize) -> Answer<'_> {
-        let Said { message, walked } = self.said(model);
-        let Some(message) = message else { return Answer::NoMessage };
+    /// What a report answers in a model and a wording, with room for so many slots and bytes.
+    pub fn answer(&self, model: Model, wording: Wording, room: usize, output: usize) -> Answer<'_> {
+        let said = self.said(model);
+        let walked = &said.walked;
+        let Some(message) = said.message(wording) else { return Answer::NoMessage };
         if let Some(at) = walked.as_ref().and_then(|walked| walked.lacking(room)) {
             return Answer::NoRoom { at };
         }

@@ -9,6 +9,7 @@ use crate::model::Model;
 use crate::random::Random;
 use crate::rule::Facts;
 use crate::sides::{Build, Holding, Wrapped};
+use crate::wording::Wording;
 use korsepal::{Answer, Parameters};
 use std::collections::HashMap;
 
@@ -89,11 +90,12 @@ pub fn line(answer: Answer) -> Vec<u8> {
         Answer::NoRoom { at } => format!("3 0 0 0 {at}").into_bytes(),
         Answer::NoOutput { needed } => format!("4 0 0 0 {needed}").into_bytes(),
         Answer::TooLong => b"5 0 0 0".to_vec(),
-        other => unreachable!("no report gives {other:?}"),
+        Answer::NoWording => b"11 0 0 0".to_vec(),
+        other => format!("{other:?}").into_bytes(),
     }
 }
 
-/// The row of a case and its sort; `None` where a listed difference but D6 and D7 holds of it.
+/// The row of a case and its sort, in wording 1; `None` where a listed difference but D6 and D7 holds of it.
 fn case(bytes: &[u8]) -> Option<(Row, usize)> {
     let (answer, sort) = match layout::read(bytes) {
         Err(Wrong::TooLong) => return None,
@@ -103,12 +105,13 @@ fn case(bytes: &[u8]) -> Option<(Row, usize)> {
             if facts.listed() {
                 return None;
             }
-            let answer = facts.answer(Model::Document, ROOM, OUTPUT);
+            let answer = facts.answer(Model::Document, Wording::First, ROOM, OUTPUT);
             (line(answer), sort(&answer))
         }
     };
     let fields = format!("report | {} | {ROOM} | {OUTPUT}", spelled(bytes));
-    let said = line(korsepal::report(bytes, &mut [0; ROOM], &mut [0; OUTPUT]));
+    let manner = Model::Document.manner().wording(Wording::First.number());
+    let said = line(korsepal::report_in(manner, bytes, &mut [0; ROOM], &mut [0; OUTPUT]));
     Some((Row { fields, answer, said }, sort))
 }
 

@@ -1,4 +1,5 @@
-//! The C interface, as `bindings/c/korsepal.h` has it. Each function takes any input and touches nothing but what it is lent.
+//! The C interface, as `bindings/c/korsepal.h` has it; of the reports only the one that names both model and wording. Each function
+//! takes any input and touches nothing but what it is lent.
 
 #[repr(C)]
 pub struct ReportResult {
@@ -55,16 +56,6 @@ pub struct TypesResult {
     pub count: u64,
 }
 
-/// A report, in either model.
-pub type Report = unsafe extern "C" fn(
-    case: *const u8,
-    case_count: usize,
-    stack: *mut u64,
-    stack_count: usize,
-    output: *mut u8,
-    output_count: usize,
-) -> ReportResult;
-
 /// A walk, in either model.
 pub type Walk = unsafe extern "C" fn(
     case: *const u8,
@@ -76,15 +67,9 @@ pub type Walk = unsafe extern "C" fn(
 ) -> WalkResult;
 
 extern "C" {
-    pub fn korsepal_report(
-        case: *const u8,
-        case_count: usize,
-        stack: *mut u64,
-        stack_count: usize,
-        output: *mut u8,
-        output_count: usize,
-    ) -> ReportResult;
-    pub fn korsepal_report_full(
+    pub fn korsepal_report_in(
+        full: u32,
+        wording: u32,
         case: *const u8,
         case_count: usize,
         stack: *mut u64,

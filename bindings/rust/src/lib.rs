@@ -4,7 +4,7 @@
 //! kept, except by [`build_message`], which lays out a case first. "Document 01" is the customer's requirements.
 //!
 //! A report is asked for in a [`Manner`]: [`report_in`], [`walk_in`] and [`build_message_in`] take one, the functions without it
-//! have the default.
+//! have the default, document 01's model and wording 2.
 //!
 //! ```
 //! use korsepal::{report, Answer};
@@ -30,7 +30,8 @@ pub use case::{put_number, Case, Kind, LocalRecord, Member, GREATEST};
 pub use manner::Manner;
 pub use message::{build_message, build_message_in};
 
-/// What a report answers: a variant for each number of document 01. Further numbers may come.
+/// What a report answers: a variant for each number of documents 01 and 02, and one for a number that this crate does not know.
+/// Further ones may come.
 #[derive(Clone, Copy, Debug, PartialEq, Eq)]
 #[non_exhaustive]
 pub enum Answer<'a> {
@@ -48,24 +49,37 @@ pub enum Answer<'a> {
     NoOutput { needed: u64 },
     /// 5: the case has more than 1,048,576 bytes.
     TooLong,
+    /// 11: there is no such wording. It comes before every other answer.
+    NoWording,
+    /// A number that is none of these: the archive is newer than this crate. It is handed on as it is, and never read as another.
+    Unknown(u32),
 }
 
-/// A number that this crate does not know: it is older than the archive that it was linked with.
+/// A number of another answer that this crate does not know: it is older than the archive that it was linked with.
 fn unknown(what: &str, number: u32) -> ! {
     panic!("this crate knows no {what} {number}: it is older than its archive")
 }
 
-/// The report of a case. The stack is all zero afterwards; on every answer but a message the output is unchanged.
+/// The report of a case in document 01's model and in wording 2. The stack is all zero afterwards; on every answer but a message
+/// the output is unchanged.
 pub fn report<'a>(case: &[u8], stack: &mut [u64], output: &'a mut [u8]) -> Answer<'a> {
     report_in(Manner::default(), case, stack, output)
 }
 
 /// The report of a case in a manner. Otherwise as [`report`].
 pub fn report_in<'a>(manner: Manner, case: &[u8], stack: &mut [u64], output: &'a mut [u8]) -> Answer<'a> {
-    let report: ffi::Report = if manner.is_full() { ffi::korsepal_report_full } else { ffi::korsepal_report };
     // SAFETY: each pointer goes with the count of its slice, and the slices don't overlap.
     let r = unsafe {
-        report(case.as_ptr(), case.len(), stack.as_mut_ptr(), stack.len(), output.as_mut_ptr(), output.len())
+        ffi::korsepal_report_in(
+            u32::from(manner.is_full()),
+            manner.wording_number(),
+            case.as_ptr(),
+            case.len(),
+            stack.as_mut_ptr(),
+            stack.len(),
+            output.as_mut_ptr(),
+            output.len(),
+        )
     };
     match r.answer {
         0 => Answer::Message { text: &output[..r.value as usize], kind: r.kind, scan: r.scan, block: r.block },
@@ -74,7 +88,8 @@ pub fn report_in<'a>(manner: Manner, case: &[u8], stack: &mut [u64], output: &'a
         3 => Answer::NoRoom { at: r.value },
         4 => Answer::NoOutput { needed: r.value },
         5 => Answer::TooLong,
-        number => unknown("answer", number),
+        11 => Answer::NoWording,
+        number => Answer::Unknown(number),
     }
 }
 
@@ -148,7 +163,7 @@ pub fn walk<'a>(case: &[u8], leader: u64, fault: u64, stack: &'a mut [u64]) -> W
     walk_in(Manner::default(), case, leader, fault, stack)
 }
 
-/// The walk in a manner's model. Otherwise as [`walk`].
+/// The walk in a manner's model. A walk has no wording: that of the manner is ignored, whatever its number. Otherwise as [`walk`].
 pub fn walk_in<'a>(manner: Manner, case: &[u8], leader: u64, fault: u64, stack: &'a mut [u64]) -> Walk<'a> {
     let walk: ffi::Walk = if manner.is_full() { ffi::korsepal_walk_full } else { ffi::korsepal_walk };
     // SAFETY: as in `report_in`.

@@ -1,6 +1,6 @@
 //! `build_message` with the shape of the Rust's: it lays out a case from what the virtual machine has at hand, and reports.
 use crate::case::{Case, Kind, LocalRecord, Member};
-use crate::{report_in, Answer, Manner};
+use crate::{report_in, unknown, Answer, Manner};
 use std::collections::BTreeMap;
 
 /// Fields and methods are cited by the operand behind these opcodes: getstatic to invokeinterface.
@@ -32,7 +32,8 @@ fn cited_members(code: &[u8], lookup: &impl Fn(u16, Kind) -> Option<Member>) -> 
     members.into_iter().collect()
 }
 
-/// The message for a fault, or `None` where there is none: in the place of rusty-jvm's `build_message`.
+/// The message for a fault, or `None` where there is none: in the place of rusty-jvm's `build_message`, but in wording 2. For its
+/// very words name wording 1, by [`build_message_in`].
 ///
 /// `lookup` answers the member at a pool index if it is of that kind, as `get_full_field_info` and `get_full_method_info` do.
 /// `None` also where a case can't hold the method (a text or a code above 65,535 bytes, a case above 1,048,576).
@@ -63,6 +64,11 @@ pub fn build_message(
 }
 
 /// The message in a manner. Otherwise as [`build_message`].
+///
+/// # Panics
+///
+/// Where the manner's wording is neither 1 nor 2, whatever the method: `None` would say that there is no message. So does an answer that
+/// this crate does not know, of an archive that is newer. [`report_in`] has a variant for each and does not panic.
 pub fn build_message_in(
     manner: Manner,
     access_flags: u16,
@@ -72,6 +78,10 @@ pub fn build_message_in(
     records: &[LocalRecord],
     fault: usize,
 ) -> Option<String> {
+    // A wording is judged before there is a case, as in a report.
+    if report_in(manner, &[], &mut [], &mut []) == Answer::NoWording {
+        no_wording(manner);
+    }
     let case = Case {
         flags: access_flags,
         fault: u16::try_from(fault).ok()?,
@@ -89,6 +99,13 @@ pub fn build_message_in(
             Answer::NoRoom { .. } => stack = vec![0; stack.len() * 4],
             Answer::NoOutput { needed } => output = vec![0; needed as usize],
             Answer::NoMessage | Answer::Broken { .. } | Answer::TooLong => return None,
+            Answer::NoWording => no_wording(manner),
+            Answer::Unknown(number) => unknown("answer", number),
         }
     }
+}
+
+/// A caller's mistake.
+fn no_wording(manner: Manner) -> ! {
+    panic!("{} is no wording: a message is had in wording 1 or 2", manner.wording_number())
 }

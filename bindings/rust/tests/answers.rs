@@ -111,6 +111,127 @@ fn locals_above_255() {
     }
 }
 
+/// A row of document 02, request 11: aload_0, iconst_0, and a load by baload.
+const MASK: &[u8] = b"\x08\x02\x03\x2a\x03\x33\x00\x00\x00";
+
+/// Its message in wording 1 and in wording 2.
+const WORDED: [&[u8]; 2] = [
+    b"Cannot load from byte array because \"<local0>\" is null",
+    b"Cannot load from byte/boolean array because \"<local0>\" is null",
+];
+
+/// Numbers that are no wording.
+const OTHERS: [u32; 6] = [0, 3, 9, 11, 257, u32::MAX];
+
+#[test]
+fn each_wording_by_its_own_length() {
+    assert_eq!(WORDED.map(<[u8]>::len), [54, 62]);
+    for (manner, place) in manners().into_iter().flat_map(|manner| [(manner, 0), (manner, 1)]) {
+        let (manner, text) = (manner.wording(place as u32 + 1), WORDED[place]);
+        for room in 0..=64 {
+            let (mut stack, mut output) = ([7; 3], [9; 64]);
+            let answer = report_in(manner, MASK, &mut stack, &mut output[..room]);
+            if room < text.len() {
+                assert_eq!(answer, Answer::NoOutput { needed: text.len() as u64 }, "{manner:?}, {room}");
+                assert_eq!(output, [9; 64]);
+            } else {
+                assert_eq!(answer, Answer::Message { text, kind: 2, scan: 3, block: 2 }, "{manner:?}, {room}");
+                assert!(output.starts_with(text) && output[text.len()..].iter().all(|&byte| byte == 9));
+            }
+            assert_eq!(stack, [0; 3]);
+        }
+    }
+}
+
+#[test]
+fn naming_no_wording_gets_the_second() {
+    for room in [0, 53, 54, 61, 62, 64] {
+        let (mut named, mut unnamed) = (vec![9; room], vec![9; room]);
+        let second = report_in(Manner::default().wording(2), MASK, &mut [7; 3], &mut named);
+        assert_eq!(report(MASK, &mut [7; 3], &mut unnamed), second);
+    }
+    for manner in manners() {
+        assert_eq!(manner, manner.wording(2));
+        assert_eq!(manner.wording(9).wording(1), manner.wording(1));
+    }
+    assert_eq!(Manner::default().wording(1).full(), Manner::default().full().wording(1));
+}
+
+#[test]
+fn no_wording_comes_first() {
+    let long = vec![0; 1_048_577];
+    for (manner, number) in manners().into_iter().flat_map(|manner| OTHERS.map(|number| (manner, number))) {
+        for case in [MASK, EXAMPLE, &MASK[..8], b"", &long] {
+            for (cells, room) in [(3, 80), (3, 53), (0, 80), (0, 0)] {
+                let (mut stack, mut output) = ([7; 3], [9; 80]);
+                let answer = report_in(manner.wording(number), case, &mut stack[..cells], &mut output[..room]);
+                assert_eq!(answer, Answer::NoWording, "{number}, {} bytes", case.len());
+                assert!(stack[..cells].iter().all(|&cell| cell == 0) && stack[cells..].iter().all(|&cell| cell == 7));
+                assert_eq!(output, [9; 80]);
+            }
+        }
+    }
+}
+
+#[test]
+fn a_walk_has_no_wording() {
+    for number in OTHERS {
+        let manner = Manner::default().wording(number);
+        assert_eq!(walk_in(manner, MASK, 0, 2, &mut [7; 3]), Walk::Done { slots: &[1, 0], count: 2 });
+    }
+}
+
+/// The message for a fault behind `aload_0` and two constants, in a wording; a record names local 0, and member 1 takes a byte.
+fn worded(number: u32, fault: &[u8]) -> Option<String> {
+    let code = [&[0x2a, 0x03, 0x03][..], fault].concat();
+    let records = [LocalRecord { start: 0, length: 9, slot: 0, name: b"byte".to_vec() }];
+    let member = |_, kind| {
+        (kind == Kind::Method).then(|| Member {
+            kind,
+            class: b"byte".to_vec(),
+            name: b"byte array".to_vec(),
+            descriptor: b"(B[B)V".to_vec(),
+        })
+    };
+    build_message_in(Manner::default().wording(number), 8, &code, "byte:([B)V", member, &records, 3)
+}
+
+#[test]
+fn nothing_else_is_worded_otherwise() {
+    for opcode in (46..=53).chain(79..=86).chain([190, 191, 194, 195]) {
+        let (first, second) = (worded(1, &[opcode]), worded(2, &[opcode]));
+        let expected = match opcode {
+            51 | 84 => first.map(|text| text.replacen("byte array", "byte/boolean array", 1)),
+            _ => first,
+        };
+        assert!(expected.is_some());
+        assert_eq!(second, expected, "opcode {opcode}");
+    }
+    let call = "Cannot invoke \"byte.byte array(byte, byte[])\" because \"byte\" is null";
+    assert_eq!([1, 2].map(|number| worded(number, &[0xb6, 0, 1])), [Some(call.to_string()), Some(call.to_string())]);
+    assert_eq!(worded(2, &[84]).as_deref(), Some("Cannot store to byte/boolean array because \"byte\" is null"));
+}
+
+#[test]
+#[should_panic(expected = "9 is no wording: a message is had in wording 1 or 2")]
+fn a_message_in_no_wording_is_a_mistake() {
+    worded(9, &[84]);
+}
+
+/// At pop there is no message in any wording.
+#[test]
+#[should_panic(expected = "0 is no wording")]
+fn the_mistake_comes_before_no_message() {
+    worded(0, &[0x57]);
+}
+
+#[test]
+#[should_panic(expected = "4294967295 is no wording")]
+fn the_mistake_comes_before_a_fault_that_no_case_holds() {
+    let manner = Manner::default().full().wording(u32::MAX);
+    build_message_in(manner, 8, &[0x2a, 0xbe], "m:()V", string_member, &[], 70_000);
+}
+
 #[test]
 fn a_case_lays_out_its_bytes() {
     let case = Case {
