@@ -1,4 +1,5 @@
 // What a report answers (document 01, "Numbers returned"; document 02, request 11), and how a message reaches the lent output.
+#![tactic(auto)]
 ghost use Rattle.std.specs.Prelude.{◌≡◌};
 ghost use Rattle.message.specs.Message.{message_text};
 ghost use Rattle.answer.specs.Answer.{kind_of, said, Delivered};
@@ -9,7 +10,7 @@ use message::put_message_at;
 use words::Wording;
 
 // What a report answers, by document 01's numbers 0 to 5 and document 02's 11.
-#[derive(Drop)]
+#[derive(Clone, Copy)]
 pub enum Report {
     Message {
         length: usize,

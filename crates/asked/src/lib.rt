@@ -1,4 +1,5 @@
 // What the program's words ask for: --full the full model, --wording and a number that wording. Named twice, the last holds.
+#![tactic(auto)]
 ghost use Rattle.std.specs.Prelude.{◌-◌, ◌≡◌};
 ghost use Rattle.basics.specs.Choice.{pick, between};
 ghost use Rattle.asked.specs.Asked.{decimal_in, word_of, unasked as Unasked, wrongly, after_in, after_word};
@@ -9,7 +10,7 @@ use effects::Model;
 use words::{Named, wording_by};
 
 // A word as it is read: a number by the wording that it names.
-#[derive(Drop)]
+#[derive(Clone, Copy)]
 pub enum Word {
     Full,
     Wording,
@@ -18,14 +19,14 @@ pub enum Word {
 }
 
 // Whether the words so far are whole, lack the number of a wording, or have a wrong one among them.
-#[derive(Drop)]
+#[derive(Clone, Copy)]
 pub enum State {
     Whole,
     Pending,
     Wrong,
 }
 
-#[derive(Drop)]
+#[derive(Clone, Copy)]
 pub struct Asked {
     pub model: Model,
     pub wording: Named,

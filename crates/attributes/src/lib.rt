@@ -1,5 +1,6 @@
 // Attributes of a class file, passed over by their length (JVMS 4.7), its fields (JVMS 4.5) and its interfaces (JVMS 4.1). Every function
 // takes any file, any table of the pool's places, any place and any limit, and answers by the format.
+#![tactic(auto)]
 ghost use Rattle.std.specs.Prelude.{◌≡◌};
 ghost use Rattle.entries.specs.Entries.{names_by};
 ghost use Rattle.format.specs.Format.{times, read_by};

@@ -1,5 +1,6 @@
 // The walk of a block over a lent stack of cells, in either model (document 01, "The walk"; document 02, requests 1
 // and 7).
+#![tactic(auto)]
 ghost use Rattle.std.specs.Prelude.{◌≡◌, ◌+◌, ◌<◌, leb, length, take, replicate};
 ghost use Rattle.basics.specs.Choice.{pick};
 ghost use Rattle.fixed.specs.Fixed.{key_length, FixedLengths};
@@ -26,7 +27,7 @@ const MANY: usize = 128;
 const CELLS: usize = 3072;
 
 // The height after an effect.
-#[derive(Drop)]
+#[derive(Clone, Copy)]
 pub enum Height {
     Refused,
     Over,
@@ -34,7 +35,7 @@ pub enum Height {
 }
 
 // How an instruction ends.
-#[derive(Drop)]
+#[derive(Clone, Copy)]
 pub enum Step {
     Stops,
     Lacks,

@@ -1,5 +1,6 @@
 // The Code of a method (JVMS 4.7.3) with its exception table and its local tables (JVMS 4.7.13), judged by the format. Every function takes
 // any file, any table of the pool's places, any place and any limit.
+#![tactic(auto)]
 ghost use Rattle.std.specs.Prelude.{◌≡◌};
 ghost use Rattle.basics.specs.Choice.{between};
 ghost use Rattle.entries.specs.Entries.{names_by};
@@ -17,7 +18,7 @@ use tables::Run;
 const LONGEST: usize = 65535;
 
 // A method's code: where its instructions start, how many bytes they are, and where the attribute ends.
-#[derive(Drop)]
+#[derive(Clone, Copy)]
 pub struct CodePlace {
     pub start: usize,
     pub size: usize,
@@ -26,7 +27,7 @@ pub struct CodePlace {
 
 // An entry of a local table: where its local is in scope and for how many bytes, the pool number of its name, its slot, and the place after
 // it.
-#[derive(Drop)]
+#[derive(Clone, Copy)]
 pub struct LocalPlace {
     pub start: usize,
     pub size: usize,
@@ -36,7 +37,7 @@ pub struct LocalPlace {
 }
 
 // What reading an entry of a local table answers.
-#[derive(Drop)]
+#[derive(Clone, Copy)]
 pub enum LocalRead {
     Read(LocalPlace),
     // The place of the first wrong item.
@@ -44,7 +45,7 @@ pub enum LocalRead {
 }
 
 // What reading a Code answers.
-#[derive(Drop)]
+#[derive(Clone, Copy)]
 pub enum CodeRead {
     // The code, and the place after its attribute.
     Read(CodePlace, usize),

@@ -1,11 +1,12 @@
 // How an opcode bears on blocks (document 01, "Leaders").
+#![tactic(auto)]
 ghost use Rattle.std.specs.Prelude.{◌≡◌};
 ghost use Rattle.branch.specs.Branch.{branch_of};
 
 use opcode::Opcode;
 
 // How an instruction bears on blocks.
-#[derive(Drop)]
+#[derive(Clone, Copy)]
 pub enum Branch {
     // A branch with an offset of 16 bits.
     Near,

@@ -1,5 +1,6 @@
 // Reading a case (document 01, "The case"): one pass from the first byte to the last, no copy, no byte looked at twice.
 // Any bytes are taken. What cannot be read is answered, never assumed away.
+#![tactic(auto)]
 ghost use Rattle.std.specs.Prelude.{◌≡◌};
 ghost use Rattle.casefile.specs.Whole.{tables_at, case_of};
 
@@ -11,7 +12,7 @@ use tables::Run;
 const LONGEST: usize = 1048576;
 
 // Where the member run and the record run lie in a case, their counts, and the place after the last record.
-#[derive(Drop)]
+#[derive(Clone, Copy)]
 pub struct TablePlaces {
     pub members: usize,
     pub members_length: usize,
@@ -23,7 +24,7 @@ pub struct TablePlaces {
 }
 
 // What reading the two runs answers.
-#[derive(Drop)]
+#[derive(Clone, Copy)]
 pub enum Tables {
     Read(TablePlaces),
     // The place of the first wrong item.
@@ -31,7 +32,7 @@ pub enum Tables {
 }
 
 // Where the parts of a case lie.
-#[derive(Drop)]
+#[derive(Clone, Copy)]
 pub struct Places {
     pub flags: usize,
     pub fault: usize,
@@ -48,7 +49,7 @@ pub struct Places {
 }
 
 // What reading a case answers.
-#[derive(Drop)]
+#[derive(Clone, Copy)]
 pub enum Case {
     Parts(Places),
     // The place of the first wrong item.

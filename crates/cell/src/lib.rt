@@ -1,17 +1,18 @@
 // A cell of the lent stack: an opaque slot, or the load of a local, as a number (document 01, "Numbers returned"; document
 // 02, request 7).
+#![tactic(auto)]
 ghost use Rattle.std.specs.Prelude.{◌≡◌, length, replicate};
 ghost use Rattle.cell.specs.Cell.{packed, unpacked};
 
 // A load as a cell.
-#[derive(Drop)]
+#[derive(Clone, Copy)]
 pub enum Cell {
     Held(u64),
     TooLarge,
 }
 
 // What a cell holds.
-#[derive(Drop)]
+#[derive(Clone, Copy)]
 pub enum Slot {
     Other,
     Loaded { load: usize, local: usize },

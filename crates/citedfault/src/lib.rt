@@ -1,5 +1,6 @@
 // The fault of an instruction of a class file (document 02, request 3), decoded by the one member that it cites, laid out alone in an array of
 // the reader's own.
+#![tactic(auto)]
 ghost use Rattle.std.specs.Prelude.{◌≡◌, ◌+◌, ◌≤◌, ◌<◌, ltb, length};
 ghost use Rattle.basics.specs.Bytes.{u16_at};
 ghost use Rattle.basics.specs.Choice.{pick};

@@ -1,5 +1,6 @@
 // The member that a pool number of a class file leads to, laid out as a case's member run has it, alone (document 02, request 3). It
 // answers the place after the run, also where the output ends before it, so the run is measured by writing it to no output.
+#![tactic(auto)]
 ghost use Rattle.std.specs.Prelude.{◌≤◌, length};
 ghost use Rattle.cases.specs.LaidOut.{members_bytes};
 ghost use Rattle.classparts.specs.Parts.{member_by};

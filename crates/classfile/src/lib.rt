@@ -1,4 +1,5 @@
 // A class file (JVMS 4.1), judged whole by the format. A lent table takes the places of the constant pool's entries.
+#![tactic(auto)]
 ghost use Rattle.std.specs.Prelude.{◌≡◌, ◌≤◌, length};
 ghost use Rattle.basics.specs.Bytes.{u16_at};
 ghost use Rattle.entries.specs.Entries.{names_by};
@@ -17,7 +18,7 @@ use tables::Run;
 const MAGIC: usize = 0xcafebabe;
 
 // What reading the start of a class file answers.
-#[derive(Drop)]
+#[derive(Clone, Copy)]
 pub enum StartRead {
     // The major version, and the place after the constant pool.
     Read { major: usize, next: usize },
@@ -26,7 +27,7 @@ pub enum StartRead {
 }
 
 // What reading the methods of a class file answers.
-#[derive(Drop)]
+#[derive(Clone, Copy)]
 pub enum MethodsRead {
     // Where the first one stands, and how many they are.
     Read { from: usize, count: usize },
@@ -35,7 +36,7 @@ pub enum MethodsRead {
 }
 
 // What reading a class file answers.
-#[derive(Drop)]
+#[derive(Clone, Copy)]
 pub enum ClassRead {
     // The major version, where the first method stands, and how many methods there are.
     Read {

@@ -1,7 +1,8 @@
 // What a constant pool holds, as far as a report reads it (JVMS 4.4). The class file's format stands in specs/.
+#![tactic(auto)]
 
 // An entry of the pool.
-#[derive(Drop)]
+#[derive(Clone, Copy)]
 pub enum Entry {
     // A Utf8: where its bytes start in the file, and how many they are.
     Text {

@@ -1,5 +1,6 @@
 // The message of a fault in a method of a class file (document 02, request 3): the texts that it takes from the file are turned and laid out
 // as a case has them, in an array of the writer's own, and the message of the case is written from there.
+#![tactic(auto)]
 ghost use Rattle.std.specs.Prelude.{◌≡◌, ◌≤◌, length};
 ghost use Rattle.cases.specs.LaidOut.{records_bytes};
 ghost use Rattle.text.specs.Writing.{Written};
@@ -22,7 +23,7 @@ const USUAL: usize = 4096;
 
 // What a message takes from the file: the pool number of the member that the faulting instruction cites; the record that names the local
 // of its cause, and the slot of that local; the pool numbers of the method's name and of its descriptor.
-#[derive(Drop)]
+#[derive(Clone, Copy)]
 pub struct Texts {
     pub cited: usize,
     pub found: LocalFound,
@@ -32,7 +33,7 @@ pub struct Texts {
 }
 
 // What failed, and by which cause, in a method with a receiver or without, with the counts of the scan and of the block.
-#[derive(Drop)]
+#[derive(Clone, Copy)]
 pub struct Failure {
     pub action: Action,
     pub cause: Slot,
@@ -42,7 +43,7 @@ pub struct Failure {
 }
 
 // Where texts end that are laid out one behind the other: the member run, the record run, the signature.
-#[derive(Drop)]
+#[derive(Clone, Copy)]
 pub struct Laid {
     pub members: usize,
     pub records: usize,

@@ -1,6 +1,7 @@
 // The report of a fault in one method of a class file (document 02, request 3): the fault is decoded by the member that it cites, the walk
 // asks the pool, and the message takes its texts from the file. It takes any file, any table of the pool's places and any places of the
 // method.
+#![tactic(auto)]
 ghost use Rattle.std.specs.Prelude.{◌≡◌, length, replicate};
 ghost use Rattle.answer.specs.Answer.{Delivered};
 ghost use Rattle.classmethod.specs.Method.{slot_of, record_for, method_said};

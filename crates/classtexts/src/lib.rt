@@ -1,6 +1,7 @@
 // Texts of a class file turned to UTF-8 and laid out as a case has them (document 02, request 3): a text, a member and a local record of
 // a case, and a signature. A function that writes answers the place after its item, also where the output ends before it, so an item is
 // measured by writing it to no output.
+#![tactic(auto)]
 ghost use Rattle.std.specs.Prelude.{◌≡◌, length};
 ghost use Rattle.items.specs.Text.{text_bytes};
 ghost use Rattle.cases.specs.LaidOut.{member_bytes, record_bytes};

@@ -1,4 +1,5 @@
 // Descriptors, read leniently (document 01, "Descriptors"; document 02, request 2).
+#![tactic(auto)]
 ghost use Rattle.std.specs.Prelude.{◌≡◌};
 ghost use Rattle.basics.specs.Choice.{pick};
 ghost use Rattle.fieldtype.specs.declared.Found.TheVariants.{At};
@@ -7,13 +8,13 @@ ghost use Rattle.descriptor.specs.Readers.{parameters, parameter_at, slots_behin
 use fieldtype::{Found, Taken, is_wide, parse_field_type, type_slots};
 
 // The parameters of a call: their slots, and where their list ends.
-#[derive(Drop)]
+#[derive(Clone, Copy)]
 pub enum Params {
     Read { slots: usize, end: usize },
     Unreadable,
 }
 
-#[derive(Drop)]
+#[derive(Clone, Copy)]
 pub enum Slots {
     Slots(usize),
     Unreadable,

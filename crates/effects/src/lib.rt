@@ -1,8 +1,9 @@
 // The rows of the walk and the depths of causes, held against JVMS. All of it stands in specs/; here is the choice between the two
 // tables of rows.
+#![tactic(auto)]
 
 // Which instructions a walk models.
-#[derive(Drop)]
+#[derive(Clone, Copy)]
 pub enum Model {
     // Those of document 01.
     Document,

@@ -1,5 +1,6 @@
 // What a pool number of a class file leads to, by a table of the places where the pool's entries stand (JVMS 4.4). Every function takes any
 // file, any table and any number: a number that the table has not leads to nothing.
+#![tactic(auto)]
 ghost use Rattle.std.specs.Prelude.{◌≡◌, ◌≤◌, length, get_or};
 ghost use Rattle.classformat.specs.Contents.{leads, is_named, spelled};
 ghost use Rattle.entries.specs.Entries.{entry_behind, entry_by, names_by, resolved_by};
@@ -10,7 +11,7 @@ use items::part_at;
 use reads::read_u16;
 
 // A member that resolves fully: its kind, and the numbers of its three texts.
-#[derive(Drop)]
+#[derive(Clone, Copy)]
 pub enum Resolved {
     Member {
         kind: usize,

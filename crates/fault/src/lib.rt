@@ -1,5 +1,6 @@
 // What the faulting instruction would have done, and how deep the reference lies that it would have dereferenced (document 01,
 // "Action and cause").
+#![tactic(auto)]
 ghost use Rattle.std.specs.Prelude.{◌-◌, ◌≤◌, ◌<◌, ◌≡◌, length};
 ghost use Rattle.depth.specs.Store.{store_depth};
 ghost use Rattle.fault.specs.Decoding.{decoded};
@@ -13,7 +14,7 @@ use descriptor::Params;
 use opcode::Opcode;
 
 // The nine action forms. A member is named by its pool index, an element type by its place in the order of the opcodes.
-#[derive(Drop)]
+#[derive(Clone, Copy)]
 pub enum Action {
     ReadField { index: usize },
     AssignField { index: usize },
@@ -27,7 +28,7 @@ pub enum Action {
 }
 
 // The action that failed, and how many slots lie above the reference.
-#[derive(Drop)]
+#[derive(Clone, Copy)]
 pub enum Fault {
     Failed { action: Action, depth: usize },
     Nothing,

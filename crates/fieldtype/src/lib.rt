@@ -1,17 +1,18 @@
 // One type of a descriptor, read leniently (document 01, "Descriptors").
+#![tactic(auto)]
 ghost use Rattle.std.specs.Prelude.{◌≡◌, ◌+◌, drop};
 ghost use Rattle.fieldtype.specs.Search.{first_from};
 ghost use Rattle.fieldtype.specs.Types.{is_wide, brackets, field_type_at, type_slots};
 
 // A place in a text, or that there is none.
-#[derive(Drop)]
+#[derive(Clone, Copy)]
 pub enum Found {
     At(usize),
     Absent,
 }
 
 // One type: its letter, its dimensions, where its class name lies (an empty place where it has none), and the index after it.
-#[derive(Drop)]
+#[derive(Clone, Copy)]
 pub struct FieldType {
     pub letter: u8,
     pub dims: usize,
@@ -20,7 +21,7 @@ pub struct FieldType {
     pub next: usize,
 }
 
-#[derive(Drop)]
+#[derive(Clone, Copy)]
 pub enum Taken {
     Field(FieldType),
     Unreadable,

@@ -1,12 +1,13 @@
 // The items of a format, read from any bytes and at any place: numbers of a class file, most significant byte first, each of which has to
 // end at or before a limit. A byte past the file's end reads as 0.
+#![tactic(auto)]
 ghost use Rattle.std.specs.Prelude.{◌≡◌, ◌-◌};
 ghost use Rattle.format.specs.Items.{item_at, window_at};
 
 use reads::{read_u16, read_u32};
 
 // What reading an item answers.
-#[derive(Drop)]
+#[derive(Clone, Copy)]
 pub enum Item {
     // The number, and the place behind it.
     Value(usize, usize),
@@ -15,7 +16,7 @@ pub enum Item {
 }
 
 // What reading a length answers.
-#[derive(Drop)]
+#[derive(Clone, Copy)]
 pub enum Window {
     // Where the bytes that it counts start, and where they end.
     Inside(usize, usize),

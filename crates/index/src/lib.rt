@@ -1,6 +1,7 @@
 // An index over a member run: a table with a place for every so many pool indexes, so that a lookup need not begin at the
 // run's start. A table takes any number of cells and need not fit the run: it is made in one pass, and a lookup by it reads
 // no cell that it has not.
+#![tactic(auto)]
 ghost use Rattle.std.specs.Prelude.{◌≡◌};
 ghost use Rattle.lookup.specs.Lookup.{member_found};
 ghost use Rattle.index.specs.Index.{skipped, Tabled, Indexed, found_by};
@@ -11,7 +12,7 @@ use tables::Member;
 const WIDTH: usize = 64;
 
 // What is left of a member run: where it begins, the pool index before it, and how many members it has.
-#[derive(Drop)]
+#[derive(Clone, Copy)]
 pub struct Rest {
     pub at: usize,
     pub last: usize,

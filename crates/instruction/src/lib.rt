@@ -1,5 +1,6 @@
 // What an instruction does to the slots in a model, its operands read (document 01, "The walk"; document 02, requests
 // 1 and 7).
+#![tactic(auto)]
 ghost use Rattle.std.specs.Prelude.{◌≡◌, ◌-◌, ◌≤◌, length};
 ghost use Rattle.effects.specs.Rows.{rows_of, aload as aloadRow, aloadFar as farRow, gets as getsRow, calls as callsRow, puts as putsRow, makes as makesRow};
 ghost use Rattle.key.specs.Key.{key_from};
@@ -14,7 +15,7 @@ use key::Key;
 use row::Row;
 
 // What an instruction does to the slots.
-#[derive(Drop)]
+#[derive(Clone, Copy)]
 pub enum Effect {
     Fails,
     // Takes slots and pushes opaque ones.

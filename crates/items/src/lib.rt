@@ -1,12 +1,13 @@
 // The texts of a case (document 01, "The case"), and parts of its bytes. No copy is made.
 // Every function takes any bytes and any place. What cannot be read is answered, never assumed away.
+#![tactic(auto)]
 ghost use Rattle.std.specs.Prelude.{◌≡◌, length};
 ghost use Rattle.items.specs.Text.{text_at, text_within, part_at, text_part, after_text, class_of, name_of, descriptor_of};
 
 use number::{Number, case_number};
 
 // What reading a text answers.
-#[derive(Drop)]
+#[derive(Clone, Copy)]
 pub enum Text {
     // Where its bytes start, behind the length number, and how many they are.
     Place(usize, usize),

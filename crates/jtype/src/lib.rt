@@ -1,5 +1,6 @@
 // One type of a strict descriptor, at a place of a text (document 01, "Descriptors", strict).
 // Every function takes any text and any place.
+#![tactic(auto)]
 ghost use Rattle.std.specs.Prelude.{◌≡◌, ◌+◌, drop};
 ghost use Rattle.jletter.specs.Letter.{semicolon_from};
 ghost use Rattle.jtype.specs.OneType.{brackets, unnamed_type, class_type, element, type_at};
@@ -8,7 +9,7 @@ use jletter::{Found, is_base, semicolon};
 use refusal::Refusal;
 
 // A type that was read: its base letter, its dimensions, and where its class name stands in the text (0 and 0 without one).
-#[derive(Drop)]
+#[derive(Clone, Copy)]
 pub struct TypeRecord {
     pub letter: u64,
     pub dimensions: u64,
@@ -23,7 +24,7 @@ impl TypeRecord {
 }
 
 // What reading a type at a place finds.
-#[derive(Drop)]
+#[derive(Clone, Copy)]
 pub enum Next {
     // A type, and the place after it.
     Is(TypeRecord, usize),

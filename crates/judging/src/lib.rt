@@ -1,4 +1,5 @@
 // A method's strict descriptor judged (document 01, "Descriptors", strict): how many types it has, or its first refusal.
+#![tactic(auto)]
 ghost use Rattle.std.specs.Prelude.{◌≡◌, ◌<◌, length};
 ghost use Rattle.judging.specs.Judged.{judged, raised};
 ghost use Rattle.judging.specs.Reading.{return_at, method_reading};
@@ -7,7 +8,7 @@ use jtype::{Next, TypeRecord};
 use refusal::Refusal;
 
 // What a strict reader answers.
-#[derive(Drop)]
+#[derive(Clone, Copy)]
 pub enum Answer {
     // How many types were read and written.
     Types(usize),

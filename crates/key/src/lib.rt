@@ -1,4 +1,5 @@
 // The instruction at an index of a code as a key of the tables by opcode (document 02, request 7).
+#![tactic(auto)]
 ghost use Rattle.std.specs.Prelude.{◌≡◌};
 ghost use Rattle.jvms.specs.Stack.{key_at};
 ghost use Rattle.key.specs.Key.{key_from};
@@ -6,7 +7,7 @@ ghost use Rattle.key.specs.Key.{key_from};
 use opcode::Opcode;
 
 // An opcode, or the one that `wide` widens.
-#[derive(Drop)]
+#[derive(Clone, Copy)]
 pub enum Key {
     Plain(u8),
     Wide(u8),

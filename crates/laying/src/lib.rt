@@ -1,5 +1,6 @@
 // A case's items (document 01, "The case") written into what remains of a lent output from a place on. A function that writes answers
 // the place after its item, also where the output ends before it, so an item is measured by writing it to no output.
+#![tactic(auto)]
 ghost use Rattle.std.specs.Prelude.{[], ◌∷◌};
 ghost use Rattle.text.specs.Writing.{Written};
 ghost use Rattle.number.specs.Number.{number_bytes};

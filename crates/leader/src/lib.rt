@@ -1,4 +1,5 @@
 // Where the block of a fault begins (document 01, "Leaders"): one pass over the code, and a running maximum.
+#![tactic(auto)]
 ghost use Rattle.std.specs.Prelude.{◌≡◌, [], ◌∷◌, ◌+◌, ◌-◌, ◌*◌, ◌^◌, max, ◌≤◌, ◌<◌, length};
 ghost use Rattle.bytecode.specs.Length.{operands_at, bytes_of, length_of};
 ghost use Rattle.greatest.specs.Greatest.{greatest};
@@ -10,7 +11,7 @@ use bytecode::Measure;
 use greatest::{aim, raise};
 
 // What scanning a code answers.
-#[derive(Drop)]
+#[derive(Clone, Copy)]
 pub enum Scan {
     // The greatest leader at or below the fault, and how many instructions the code has.
     Leader { at: usize, count: usize },

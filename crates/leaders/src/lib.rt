@@ -1,1 +1,2 @@
 // What document 01's leaders are, declared, and held against JVMS; there is no code here.
+#![tactic(auto)]

@@ -1,1 +1,2 @@
 // Lengths held against JVMS 6.5; there is no code here.
+#![tactic(auto)]

@@ -1,5 +1,6 @@
 // The local records of a Code (JVMS 4.7.13), searched where they stand in the class file. Its tables are judged first, and then searched table
 // by table, in file order. Each function that is public takes any file, any table of the pool's places, any place and any limit.
+#![tactic(auto)]
 ghost use Rattle.std.specs.Prelude.{List, ◌≡◌, ℕ, ◌<◌, length};
 ghost use Rattle.classformat.specs.Contents.{Local};
 ghost use Rattle.classformat.specs.ClassFile.{joined, local_format, code_attribute_format, code_tables_format};
@@ -15,7 +16,7 @@ use search::covers_load;
 use tables::Run;
 
 // The local record that names a local at an instruction.
-#[derive(Drop)]
+#[derive(Clone, Copy)]
 pub enum LocalFound {
     // Where the local is in scope and for how many bytes, and the pool number of its name.
     Found {
@@ -28,7 +29,7 @@ pub enum LocalFound {
 
 // The local records of one attribute of a Code, none where it is no local table: where they start, how many they are, and where the
 // attribute ends.
-#[derive(Drop)]
+#[derive(Clone, Copy)]
 pub struct RecordsPlace {
     pub from: usize,
     pub count: usize,
@@ -36,7 +37,7 @@ pub struct RecordsPlace {
 }
 
 // The attributes of a Code: where they start, and how many they are.
-#[derive(Drop)]
+#[derive(Clone, Copy)]
 pub struct AttributesPlace {
     pub from: usize,
     pub count: usize,

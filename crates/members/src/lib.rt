@@ -1,4 +1,5 @@
 // What a walk asks of a member, of a member run or of a class file: the slots of a field, and those of a call.
+#![tactic(auto)]
 ghost use Rattle.std.specs.Prelude.{◌≡◌};
 ghost use Rattle.members.specs.Members.{lookup_by, pool_lookup, lookup_from, slots_known, signature_of, call_known, Few};
 
@@ -8,7 +9,7 @@ use index::find_indexed;
 use items::descriptor_of;
 
 // Where members are looked up.
-#[derive(Drop)]
+#[derive(Clone, Copy)]
 pub enum Source {
     // In a member run of so many members, by a table of the run (crate index).
     Run,
@@ -17,7 +18,7 @@ pub enum Source {
 }
 
 // What is known of a call: the slots of its arguments and of its return.
-#[derive(Drop)]
+#[derive(Clone, Copy)]
 pub enum Call {
     Read { args: usize, gives: usize },
     Unreadable,

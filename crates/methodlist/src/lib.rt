@@ -1,5 +1,6 @@
 // The methods of a class file as numbers, eight a method, in the file's order (document 02, request 3). The file is judged whole first and
 // its numbers are written after, so that a refusal leaves the lent buffer alone.
+#![tactic(auto)]
 ghost use Rattle.std.specs.Prelude.{List, ◌≡◌, ℕ, ◌+◌, ◌*◌, ◌≤◌, length};
 ghost use Rattle.basics.specs.Bytes.{u16_at};
 ghost use Rattle.basics.specs.Parts.{overlaid};
@@ -20,7 +21,7 @@ use reads::read_u16;
 const LONGEST: usize = 1048576;
 
 // What listing the methods of a file answers.
-#[derive(Drop)]
+#[derive(Clone, Copy)]
 pub enum MethodList {
     // How many methods there are; the buffer starts with eight numbers of each.
     Listed(usize),
@@ -32,14 +33,14 @@ pub enum MethodList {
 }
 
 // Where the bytes of a text start in the file, and how many they are.
-#[derive(Drop)]
+#[derive(Clone, Copy)]
 pub struct TextPlace {
     pub start: usize,
     pub size: usize,
 }
 
 // Where the instructions of a method start in the file, how many bytes they are, and how many local records it has.
-#[derive(Drop)]
+#[derive(Clone, Copy)]
 pub struct CodeNumbers {
     pub start: usize,
     pub size: usize,

@@ -1,5 +1,6 @@
 // The methods of a class file (JVMS 4.6), judged by the format. Every function takes any file, any table of the pool's places, any place and
 // any limit.
+#![tactic(auto)]
 ghost use Rattle.std.specs.Prelude.{◌≡◌};
 ghost use Rattle.entries.specs.Entries.{names_by};
 ghost use Rattle.format.specs.Format.{times, each, read_by};
@@ -15,14 +16,14 @@ use format::{Item, Window, read_u2, read_window};
 use tables::Run;
 
 // The code of a method, where it has one.
-#[derive(Drop)]
+#[derive(Clone, Copy)]
 pub enum BodyPlace {
     Bodiless,
     Coded(CodePlace),
 }
 
 // What reading attributes of a method answers.
-#[derive(Drop)]
+#[derive(Clone, Copy)]
 pub enum BodyRead {
     // The code that they and those before them have, and the place after them.
     Read(BodyPlace, usize),
@@ -31,7 +32,7 @@ pub enum BodyRead {
 }
 
 // A method: its flags, the pool numbers of its name and of its descriptor, its code, and the place after it.
-#[derive(Drop)]
+#[derive(Clone, Copy)]
 pub struct MethodPlace {
     pub flags: usize,
     pub name: usize,
@@ -41,7 +42,7 @@ pub struct MethodPlace {
 }
 
 // What reading a method answers.
-#[derive(Drop)]
+#[derive(Clone, Copy)]
 pub enum MethodRead {
     Read(MethodPlace),
     // The place of the first wrong item.

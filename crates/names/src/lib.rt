@@ -1,4 +1,5 @@
 // Class names, type names and parameter lists, as the messages print them (document 01, "Action and cause").
+#![tactic(auto)]
 ghost use Rattle.std.specs.Prelude.{◌≡◌, [], ◌++◌, ◌-◌, ◌%◌, ◌≤◌, ◌<◌, eqb, length, take, drop, get_or};
 ghost use Rattle.basics.specs.Choice.{pick};
 ghost use Rattle.text.specs.Writing.{Written};
@@ -10,7 +11,7 @@ use fieldtype::{FieldType, Found, Taken};
 use text::{put, put_at};
 
 // A base type's name: its length, its bytes and zeros.
-#[derive(Drop)]
+#[derive(Clone, Copy)]
 pub struct BaseName {
     pub len: usize,
     pub bytes: [u8; 7],

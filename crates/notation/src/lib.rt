@@ -7,6 +7,7 @@
 // Bytes are written as two hexadecimal digits each or as a text in quotes, with a space between: 2a be "abc" 00. A count and a
 // star before either repeat it: 255*"[" "I". No bytes are "". A space, a star, a bar or an equals sign in a text is written in
 // digits.
+#![tactic(auto)]
 ghost use Rattle.std.specs.Prelude.{◌≤◌, ◌<◌, ◌≡◌, take};
 ghost use Rattle.notation.specs.Parts.{part_to, behind, is_row};
 
@@ -17,7 +18,7 @@ use libc::STDOUT_FILENO;
 use text::{put_at, put_decimal_at, sum};
 
 // What a field is read as: a number, or how many bytes were read.
-#[derive(Drop)]
+#[derive(Clone, Copy)]
 pub enum Value {
     Of(usize),
     Wrong,
@@ -212,7 +213,7 @@ fn read_bytes(out: &mut [u8], text: &[u8]) -> Value {
 
 // A list of kinds has a line for each: its name, the shape of its fields and, behind a bar, the forms of its answers with
 // semicolons between them.
-#[derive(Drop)]
+#[derive(Clone, Copy)]
 struct Kind {
     // The kind's number in the list, and where its line begins.
     number: usize,

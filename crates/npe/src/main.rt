@@ -1,5 +1,6 @@
 // Reads one case from standard input and prints one line: the answer, the kind, the two counts, and the message or the number
 // that the answer carries. Its words say in which model and wording.
+#![tactic(auto)]
 use answer::Report;
 use asked::{Asked, State, Word};
 use items::part_at;
@@ -8,7 +9,7 @@ use report::Manner;
 use words::Named;
 
 // What reading the input answers.
-#[derive(Drop)]
+#[derive(Clone, Copy)]
 enum Input {
     Case(usize),
     TooLong,

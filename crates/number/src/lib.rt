@@ -1,4 +1,5 @@
 // The numbers of a case (document 01, "The case"): seven bits to a byte, low group first. Every function takes any bytes and any place.
+#![tactic(auto)]
 ghost use Rattle.std.specs.Prelude.{◌≡◌, ◌<◌, length};
 ghost use Rattle.number.specs.Number.{greatest, further, number_at, number_within, rest_within};
 
@@ -6,7 +7,7 @@ ghost use Rattle.number.specs.Number.{greatest, further, number_at, number_withi
 const LAST_GROUP: usize = 3;
 
 // What reading a number answers.
-#[derive(Drop)]
+#[derive(Clone, Copy)]
 pub enum Number {
     // The number, and the place after it.
     Value(usize, usize),

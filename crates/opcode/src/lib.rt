@@ -1,6 +1,7 @@
 // The opcode numbers of the Java Virtual Machine (JVMS 6.5; the reserved ones, JVMS 6.2), as constants of one type.
 // Names and groups are those of the Rust's opcode.rs.
-#[derive(Drop)]
+#![tactic(auto)]
+#[derive(Clone, Copy)]
 pub struct Opcode {}
 
 impl Opcode {

@@ -1,5 +1,6 @@
 // The constant pool of a class file (JVMS 4.4): every entry is judged, and a lent table takes the places of the entries. The reader takes any
 // file, any count and any table.
+#![tactic(auto)]
 ghost use Rattle.std.specs.Prelude.{◌≡◌, false, ◌-◌, ◌≤◌, length, set, replicate};
 ghost use Rattle.format.specs.Format.{read_by};
 ghost use Rattle.format.specs.Items.{run_of};

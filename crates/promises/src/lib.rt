@@ -1,1 +1,2 @@
 // No code: what the promises of the other crates have in common.
+#![tactic(auto)]

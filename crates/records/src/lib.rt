@@ -1,5 +1,6 @@
 // The same name search over a lent run of local records (document 01, "Expected form in each place"), and the filling of such a
 // run from a case's bytes.
+#![tactic(auto)]
 ghost use Rattle.std.specs.Prelude.{◌-◌, ◌≡◌, ◌∷◌, [], length};
 ghost use Rattle.tables.specs.LocalRecord.{records_in};
 ghost use Rattle.search.specs.Search.{first_match, name_inside};
@@ -8,7 +9,7 @@ ghost use Rattle.records.specs.Run.{viewed, viewed_all, or_else, readNext, run_o
 use search::{NamePlace, covers_load};
 
 // A local record: the window of indexes that it holds for, its slot, and where its name begins and ends.
-#[derive(Drop)]
+#[derive(Clone, Copy)]
 pub struct LocalRecord {
     pub start: usize,
     pub length: usize,
@@ -18,7 +19,7 @@ pub struct LocalRecord {
 }
 
 // A record that was read last, where the next begins, and how many there are at most.
-#[derive(Drop)]
+#[derive(Clone, Copy)]
 struct Reading {
     local: LocalRecord,
     at: usize,

@@ -1,9 +1,10 @@
 // Why a strict descriptor is refused, with document 01's numbers ("Descriptors", strict).
+#![tactic(auto)]
 ghost use Rattle.std.specs.Prelude.{◌≡◌};
 ghost use Rattle.refusal.specs.Refusal.{number_of};
 
 // Why a descriptor is refused, in the order of document 01's numbers 1 to 14.
-#[derive(Drop)]
+#[derive(Clone, Copy)]
 pub enum Refusal {
     UnexpectedEnd,
     TooManyDimensions,

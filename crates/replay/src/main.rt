@@ -1,6 +1,7 @@
 // Replays rows of data: what the library answers to a row is written as text and compared with the answer that the row holds. A
 // row that can't be read disagrees. Each disagreement is printed, and for each file how many of its rows agree. The file wrong has
 // rows that must disagree, of each kind one at least, so a program that compares nothing would print something else.
+#![tactic(auto)]
 mod code_rows;
 mod report_rows;
 

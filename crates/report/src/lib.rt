@@ -1,4 +1,5 @@
 // The report of a case (document 01, "Numbers returned"): the case is read, then reported on by its parts, in the manner asked for.
+#![tactic(auto)]
 ghost use Rattle.std.specs.Prelude.{◌≡◌, length, replicate};
 ghost use Rattle.answer.specs.Answer.{Delivered};
 ghost use Rattle.report.specs.Report.{model_by, document_manner, default_manner, full_manner, parts_by, said_in, report_in, reported_by, report_worded, reported_worded};
@@ -14,7 +15,7 @@ use trace::{Trace, trace_cause};
 use words::{Named, Wording};
 
 // How a report is asked for.
-#[derive(Drop)]
+#[derive(Clone, Copy)]
 pub struct Manner {
     // What its walk models.
     pub model: Model,

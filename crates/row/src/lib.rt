@@ -1,4 +1,5 @@
 // What an instruction does to the slots by its key, in either model (document 01, "The walk"; document 02, requests 1 and 7).
+#![tactic(auto)]
 ghost use Rattle.std.specs.Prelude.{◌≡◌, ◌+◌, ◌<◌, ◌≤◌};
 ghost use Rattle.effects.specs.Rows.{row_of, added_row, widened_row, rows_of};
 ghost use Rattle.key.specs.Key.{key_from};
@@ -9,7 +10,7 @@ use key::Key;
 use opcode::Opcode;
 
 // What an instruction does to the slots.
-#[derive(Drop)]
+#[derive(Clone, Copy)]
 pub enum Row {
     Unmodelled,
     // Takes slots and pushes opaque ones.

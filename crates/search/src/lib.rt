@@ -1,4 +1,5 @@
 // The name search over a case's local records (document 01, "Action and cause").
+#![tactic(auto)]
 ghost use Rattle.std.specs.Prelude.{◌≡◌, length};
 ghost use Rattle.tables.specs.LocalRecord.{records_in};
 ghost use Rattle.search.specs.Search.{covers, first_match, name_inside};
@@ -6,7 +7,7 @@ ghost use Rattle.search.specs.Search.{covers, first_match, name_inside};
 use tables::LocalRecord;
 
 // Where a name lies, or that there is none.
-#[derive(Drop)]
+#[derive(Clone, Copy)]
 pub enum NamePlace {
     Name { from: usize, to: usize },
     Unnamed,

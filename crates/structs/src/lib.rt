@@ -1,4 +1,5 @@
 // The library's answers as structs of numbers, for C. A number that an answer does not carry is 0.
+#![tactic(auto)]
 ghost use Rattle.std.specs.Prelude.{◌≡◌};
 ghost use Rattle.structs.specs.Structs.{low, report_numbers, length_numbers, leader_numbers, slot_numbers, walk_numbers, strict_numbers};
 
@@ -11,7 +12,7 @@ use walk::Walk;
 
 // The report of a case.
 #[repr(C)]
-#[derive(Drop)]
+#[derive(Clone, Copy)]
 pub struct KorsepalReport {
     pub answer: u32,
     pub kind: u32,
@@ -22,7 +23,7 @@ pub struct KorsepalReport {
 
 // The length of an instruction.
 #[repr(C)]
-#[derive(Drop)]
+#[derive(Clone, Copy)]
 pub struct KorsepalLength {
     pub status: u32,
     pub length: u64,
@@ -30,7 +31,7 @@ pub struct KorsepalLength {
 
 // The leader of a fault's block.
 #[repr(C)]
-#[derive(Drop)]
+#[derive(Clone, Copy)]
 pub struct KorsepalLeader {
     pub found: u32,
     pub scan: u64,
@@ -39,7 +40,7 @@ pub struct KorsepalLeader {
 
 // The slots of a return or a field.
 #[repr(C)]
-#[derive(Drop)]
+#[derive(Clone, Copy)]
 pub struct KorsepalSlots {
     pub status: u32,
     pub slots: u32,
@@ -47,7 +48,7 @@ pub struct KorsepalSlots {
 
 // The walk of a block, alone.
 #[repr(C)]
-#[derive(Drop)]
+#[derive(Clone, Copy)]
 pub struct KorsepalWalk {
     pub outcome: u32,
     pub height: u64,
@@ -57,7 +58,7 @@ pub struct KorsepalWalk {
 
 // The name of a local.
 #[repr(C)]
-#[derive(Drop)]
+#[derive(Clone, Copy)]
 pub struct KorsepalName {
     pub answer: u32,
     pub value: u64,
@@ -65,7 +66,7 @@ pub struct KorsepalName {
 
 // The parameters of a method.
 #[repr(C)]
-#[derive(Drop)]
+#[derive(Clone, Copy)]
 pub struct KorsepalParameters {
     pub status: u32,
     pub slots: u64,
@@ -74,7 +75,7 @@ pub struct KorsepalParameters {
 
 // The types of a strict descriptor.
 #[repr(C)]
-#[derive(Drop)]
+#[derive(Clone, Copy)]
 pub struct KorsepalTypes {
     pub refusal: u32,
     pub count: u64,

@@ -1,5 +1,6 @@
 // The tables of a case (document 01, "The case"): its members and its local records, and the lookup of a member. One pass over
 // each, no copy, no byte looked at twice. Every function takes any bytes and any place. What cannot be read is answered.
+#![tactic(auto)]
 ghost use Rattle.std.specs.Prelude.{◌≡◌, length};
 ghost use Rattle.tables.specs.Layout.{run_by, run_within, three_texts, members_then, records_then, ended};
 ghost use Rattle.tables.specs.Member.{member_at, member_within};
@@ -9,7 +10,7 @@ use items::{Text, read_text};
 use number::{Number, case_number};
 
 // What reading a run of items answers.
-#[derive(Drop)]
+#[derive(Clone, Copy)]
 pub enum Run {
     // The place after the last item.
     End(usize),
@@ -18,7 +19,7 @@ pub enum Run {
 }
 
 // A member: its pool index and kind, where its three texts lie, and where the next member begins.
-#[derive(Drop)]
+#[derive(Clone, Copy)]
 pub struct MemberPlace {
     pub index: usize,
     pub kind: usize,
@@ -27,7 +28,7 @@ pub struct MemberPlace {
 }
 
 // What reading a member answers.
-#[derive(Drop)]
+#[derive(Clone, Copy)]
 pub enum Member {
     Read(MemberPlace),
     // The place of the first wrong item.
@@ -35,7 +36,7 @@ pub enum Member {
 }
 
 // A local record: its numbers, where its name lies, and where the next record begins.
-#[derive(Drop)]
+#[derive(Clone, Copy)]
 pub struct RecordPlace {
     pub start: usize,
     pub length: usize,
@@ -46,7 +47,7 @@ pub struct RecordPlace {
 }
 
 // What reading a local record answers.
-#[derive(Drop)]
+#[derive(Clone, Copy)]
 pub enum LocalRecord {
     Read(RecordPlace),
     // The place of the first wrong item.

@@ -1,6 +1,7 @@
 // Writing into what remains of a lent output. A text that is longer than the output is written as far as it reaches, and the
 // place after it is answered all the same. So nothing is asked of a caller, and a text is measured by writing it from the
 // output's end on.
+#![tactic(auto)]
 ghost use Rattle.std.specs.Prelude.{◌≡◌, [], ◌∷◌, ◌+◌, min, ◌<◌, length};
 ghost use Rattle.text.specs.Decimal.{decimal};
 ghost use Rattle.text.specs.Writing.{most, splice, Written};

@@ -1,4 +1,5 @@
 // The cause of a fault, traced over the block that it lies in (document 01, "Action and cause").
+#![tactic(auto)]
 ghost use Rattle.std.specs.Prelude.{◌-◌, ◌≤◌, ◌≡◌, ltb, length, get_or, replicate};
 ghost use Rattle.basics.specs.Choice.{pick};
 ghost use Rattle.cell.specs.Cell.{unpacked};
@@ -12,7 +13,7 @@ use leader::Scan;
 use walk::Walk;
 
 // What tracing a cause answers.
-#[derive(Drop)]
+#[derive(Clone, Copy)]
 pub enum Trace {
     // The lent stack lacks room at an index.
     NoRoom {

@@ -1,6 +1,7 @@
 // A text of a class file, judged and turned from modified UTF-8 (JVMS 4.4.7) to UTF-8 (document 02, request 3). Such a text stands for
 // UTF-16 code units, each in one form of one, two or three bytes. A byte past the end reads as 0, which stands in no form, so a form
 // that is cut is none, and every function takes any bytes.
+#![tactic(auto)]
 ghost use Rattle.std.specs.Prelude.{◌≡◌, length, drop, ◌<◌};
 ghost use Rattle.basics.specs.Choice.{between};
 ghost use Rattle.text.specs.Writing.{Written};
@@ -11,7 +12,7 @@ use reads::byte_at;
 use text::put_at;
 
 // What the bytes at a place turn to: how many of them are taken, and how many of the four bytes are given for them.
-#[derive(Drop)]
+#[derive(Clone, Copy)]
 pub struct Turn {
     pub taken: usize,
     pub given: usize,

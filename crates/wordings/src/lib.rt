@@ -1,1 +1,2 @@
 // The two wordings of a report beside each other; there is no code here.
+#![tactic(auto)]

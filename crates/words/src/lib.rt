@@ -1,5 +1,6 @@
 // The phrases that a message is made of (document 01, "Action and cause"), written from a place of the output on, and the wordings that
 // they have (document 02, request 11). A function that writes answers the place after its text, also where the output ends before it.
+#![tactic(auto)]
 ghost use Rattle.std.specs.Prelude.{◌≡◌};
 ghost use Rattle.text.specs.Writing.{Written};
 ghost use Rattle.words.specs.Words.{element_text, quoted, method_text, invoke_text, array_text};
@@ -8,14 +9,14 @@ ghost use Rattle.words.specs.Wording.{byte_text, wording_by};
 use text::put_at;
 
 // How a message calls the elements of the arrays that `baload` and `bastore` serve: bytes, or bytes and booleans.
-#[derive(Drop)]
+#[derive(Clone, Copy)]
 pub enum Wording {
     Byte,
     ByteBoolean,
 }
 
 // What a number names: a wording, or none.
-#[derive(Drop)]
+#[derive(Clone, Copy)]
 pub enum Named {
     Known(Wording),
     Unknown,

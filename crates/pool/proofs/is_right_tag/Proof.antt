@@ -14,20 +14,20 @@ is-wide-requires : tie.Need-is-wide-requires
 is-wide-requires c κs = search rules
 
 returns : tie.Need-returns
-returns c = rw (← c.before.is_IsWide.ensures, c.if1.true)
+returns c = rw (← c.before.is_wide.ensures, c.if1.true)
 
 returns-2 : tie.Need-returns-2
 returns-2 c =
     let narrow-left = c.before in
     let a = narrow-left.before.before.args in
-    let narrow : wide a.tag ≡ false = sym narrow-left.before.is_IsWide.ensures ∙ narrow-left.if1.false in
+    let narrow : wide a.tag ≡ false = sym narrow-left.before.is_wide.ensures ∙ narrow-left.if1.false in
     rw (lt-ltb a.tag 3 c.if2.true) at (tag_by_ranges a.left a.tag (omega arith) narrow)
 
 returns-3 : tie.Need-returns-3
 returns-3 c =
     let narrow-left = c.before.before in
     let a = narrow-left.before.before.args in
-    let narrow : wide a.tag ≡ false = sym narrow-left.before.is_IsWide.ensures ∙ narrow-left.if1.false in
+    let narrow : wide a.tag ≡ false = sym narrow-left.before.is_wide.ensures ∙ narrow-left.if1.false in
     rw (le-ltb a.tag 3 c.before.if2.false, lt-ltb a.tag 13 c.if3.true) at
     (tag_by_ranges a.left a.tag (omega arith) narrow)
 
@@ -35,7 +35,7 @@ returns-4 : tie.Need-returns-4
 returns-4 c =
     let narrow-left = c.before.before.before in
     let a = narrow-left.before.before.args in
-    let narrow : wide a.tag ≡ false = sym narrow-left.before.is_IsWide.ensures ∙ narrow-left.if1.false in
+    let narrow : wide a.tag ≡ false = sym narrow-left.before.is_wide.ensures ∙ narrow-left.if1.false in
     rw (le-ltb a.tag 3 c.before.before.if2.false, le-ltb a.tag 13 c.before.if3.false, lt-ltb a.tag 15 c.if4.true) at
     (tag_by_ranges a.left a.tag (omega arith) narrow)
 
@@ -43,7 +43,7 @@ returns-5 : tie.Need-returns-5
 returns-5 c =
     let narrow-left = c.before.before.before in
     let a = narrow-left.before.before.args in
-    let narrow : wide a.tag ≡ false = sym narrow-left.before.is_IsWide.ensures ∙ narrow-left.if1.false in
+    let narrow : wide a.tag ≡ false = sym narrow-left.before.is_wide.ensures ∙ narrow-left.if1.false in
     rw (le-ltb a.tag 3 c.before.before.if2.false, le-ltb a.tag 13 c.before.if3.false, le-ltb a.tag 15 c.if4.false) at
     (tag_by_ranges a.left a.tag (omega arith) narrow)
 
