@@ -23,7 +23,7 @@ returns-in-171 c = rw c.in-171.is c.lookup_bytes.ensures
 pub returns-in_default : goal.returns-in_default
 returns-in_default c =
     let a = c.args in
-    let rest = c.in_default.rest in
+    let rest = c.in_default.in_default-own.rest in
     c.fixed_length.ensures
     ∙ opcode_fixes a.code.now a.pc (omega (arith, c.type_inv.code a.pc))
     rest.0.1 rest.1 rest.0.0.1

@@ -10,8 +10,8 @@ use Rattle.items.proofs.part_at.Goals as goal
 
 pub returns-then-bytes-start : goal.returns-then-bytes-start
 returns-then-bytes-start c =
-    let a = c.before.before.args in
-    sym (rw (drop_of_length-le a.bytes.now {i = a.start} c.before.if1.true) (take-nil a.size))
+    let a = c.args in
+    sym (rw (drop_of_length-le a.bytes.now {i = a.start} c.if-bytes-start.true) (take-nil a.size))
 
 pub returns-then-bytes-start-2 : goal.returns-then-bytes-start-2
 returns-then-bytes-start-2 c =

@@ -7,7 +7,7 @@ use Rattle.items.proofs.text_part.Goals as goal
 pub returns-in_default : goal.returns-in_default
 unfolding text_part
 returns-in_default c =
-    let enum-told-is = sym c.read-text.ensures.0 ∙ c.enum_told.given.1 in
+    let enum-told-is = sym c.read_text.ensures.0 ∙ c.in_default.is in
     sym (rw (enum-told-is))
 
 pub returns : goal.returns

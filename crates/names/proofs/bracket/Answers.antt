@@ -1,0 +1,10 @@
+-- `names::bracket` meets its contract. A case on the index.
+-- Assumes nothing.
+use borrow.Author.Tests.{eq-eqb, ne_eqb}
+use Rattle.names.proofs.bracket.Goals as goal
+
+pub returns-then-i-eq0 : goal.returns-then-i-eq0
+returns-then-i-eq0 c = rw (eq-eqb _ _ c.if-i-eq0.true)
+
+pub returns-else-i-eq0 : goal.returns-else-i-eq0
+returns-else-i-eq0 c = rw (ne_eqb _ _ c.if-i-eq0.false)

@@ -1,0 +1,12 @@
+-- `names::put_brackets_at` meets its contract. What remains of the output is lent, and comes back.
+-- Assumes nothing.
+use Rattle.names.specs.Names.{bracket_pairs}
+use Rattle.text.proofs.Writing.{written_from}
+use Rattle.names.proofs.put_brackets_at.Goals as goal
+
+pub returns : goal.returns
+returns c =
+    let a = c.args in
+    let p = c.put_brackets-n in
+    written_from a.at c.shorter-from.result p.result c.sum.result (bracket_pairs a.dims) a.out.now p.new.out
+    c.shorter-from.ensures c.sum.ensures p.ensures
