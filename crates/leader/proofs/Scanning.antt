@@ -9,10 +9,7 @@ use mathlib.Core.Path.{◌≡◌, refl, ◌∙◌, sym, ap₂}
 use mathlib.Core.List.{List, [], ◌∷◌}
 use lib.Dec.{ltb}
 use lib.ListN.{length}
-use denote.Enum.Declared.{tag_of}
-use types.Run.{OneOf, miss}
 use borrow.Author.Tests.{ltb-true, ltb-false, lt-ltb, le-ltb}
-use Rattle.bytecode.specs.contracts.Measure.{the_type}
 use Rattle.bytecode.specs.declared.Measure.{Measure}
 use Rattle.bytecode.specs.declared.Measure.TheVariants.{Length, NoLength, Reserved}
 use Rattle.greatest.specs.Greatest.{greatest}
@@ -31,12 +28,6 @@ cut_is_none is n e = let z : ◌≡◌ {A = ℕ} 0 1 = cc in absurd (omega arith
 
 pub reserved_is_none : {answer : Measure} → answer ≡ Reserved → None answer
 reserved_is_none is n e = let z : ◌≡◌ {A = ℕ} 0 1 = cc in absurd (omega arith)
-
--- as a `match` tells it: the answer is one of the other two
-pub told_none : (answer : Measure) → OneOf (1 ∷ 2 ∷ []) (tag_of the_type answer) → None answer
-told_none (Length m) told n e = miss (1 ∷ 2 ∷ []) 0 tt told
-told_none NoLength told n e = cut_is_none refl n e
-told_none Reserved told n e = reserved_is_none refl n e
 
 module _ (measure : List ℕ → ℕ → Measure) (code : List ℕ) (pc : ℕ) where
   -- what the scan has at an index, with k more to come: the end, an instruction without a length, or one with its length

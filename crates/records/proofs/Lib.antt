@@ -1,6 +1,5 @@
 pub mod Agree
 pub mod Eights
 pub mod Fill
-pub mod Machine
 pub mod Search
 pub mod Within

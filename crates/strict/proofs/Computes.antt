@@ -17,8 +17,8 @@ use Rattle.jtype.specs.OneType.{brackets, type_record, unnamed_type, class_type,
 use Rattle.jletter.specs.declared.Found.TheVariants.{At, Absent}
 use Rattle.jtype.specs.declared.Next.TheVariants.{Is, Close, Refused}
 use Rattle.refusal.specs.declared.Refusal.{Refusal}
-use Rattle.refusal.specs.declared.Refusal.TheVariants.{UnexpectedEnd, TooManyDimensions, EmptyClassName, MissingSemicolon}
-use Rattle.refusal.specs.declared.Refusal.TheVariants.{CloseAfterBracket, ArrayOfVoid, Unrecognised}
+use Rattle.refusal.specs.declared.Refusal.TheVariants.{UnexpectedEnd, TooManyDimensions, EmptyClassName, MissingSemicolon, CloseAfterBracket, ArrayOfVoid, Unrecognised}
+use Rattle.refusal.specs.declared.Refusal.TheVariants.{LoneClose, TrailingAfterType, MissingOpening, VoidParameter, MissingReturn, TrailingAfterMethod, NoRoom}
 use Rattle.strict.specs.Declared.{bracketed, WrongType, ended, deep, nameless, unended, closed, voids, strange}
 use Rattle.strict.specs.Records.{letter_of, name_start, name_length, record_of, return_record}
 
@@ -193,3 +193,10 @@ reads_wrong rest at Unrecognised (strange depth x more few s e) =
     ∙ rw (ne_eqb x 76 s.class, ne_eqb x 41 s.close, ne_eqb x 86 s.void, not_base x s.base)
 reads_wrong rest at TooManyDimensions (deep more e) =
     ap (λ (l : List ℕ). type_in l at) e ∙ too_deep more at
+reads_wrong rest at LoneClose w = elim w [ ]
+reads_wrong rest at TrailingAfterType w = elim w [ ]
+reads_wrong rest at MissingOpening w = elim w [ ]
+reads_wrong rest at VoidParameter w = elim w [ ]
+reads_wrong rest at MissingReturn w = elim w [ ]
+reads_wrong rest at TrailingAfterMethod w = elim w [ ]
+reads_wrong rest at NoRoom w = elim w [ ]

@@ -1,0 +1,51 @@
+-- `casefile::read_tables` meets its contract. Each step is the definition's own; a run ends at or behind its start.
+-- Assumes nothing.
+use native.Mathlib.Omega.{arith}
+use mathlib.Core.Path.{◌∙◌, sym}
+use Rattle.casefile.specs.Whole.{tables_at}
+use Rattle.casefile.proofs.read_tables.Goals as goal
+
+pub returns-in_default : goal.returns-in_default
+unfolding tables_at
+returns-in_default c =
+    let enum-told-is = sym c.case_number.ensures.0 ∙ c.in_default.is in
+    sym (rw (enum-told-is))
+
+pub returns-in-Wrong : goal.returns-in-Wrong
+unfolding tables_at
+returns-in-Wrong c =
+    let member-count-is = sym c.case_number.ensures.0 ∙ c.in-Value.is in
+    let member-run2-is = sym c.read_members-member_run.ensures.0 ∙ c.in-Wrong.is in
+    sym (rw (member-count-is, member-run2-is))
+
+pub returns-in_default-case_number : goal.returns-in_default-case_number
+unfolding tables_at
+returns-in_default-case_number c =
+    let member-count-is = sym c.case_number.ensures.0 ∙ c.in-Value.is in
+    let member-run-is = sym c.read_members-member_run.ensures.0 ∙ c.in-End.is in
+    let enum-told2-is = sym c.case_number-2.ensures.0 ∙ c.in_default-case_number.is in
+    sym (rw (member-count-is, member-run-is, enum-told2-is))
+
+pub returns-in-Wrong-record_run : goal.returns-in-Wrong-record_run
+unfolding tables_at
+returns-in-Wrong-record_run c =
+    let member-count-is = sym c.case_number.ensures.0 ∙ c.in-Value.is in
+    let member-run-is = sym c.read_members-member_run.ensures.0 ∙ c.in-End.is in
+    let record-count-is = sym c.case_number-2.ensures.0 ∙ c.in-Value-case_number.is in
+    let record-run2-is = sym c.read_records-record_run.ensures.0 ∙ c.in-Wrong-record_run.is in
+    sym (rw (member-count-is, member-run-is, record-count-is, record-run2-is))
+
+pub overflow_sub-result : goal.overflow_sub-result
+overflow_sub-result c = omega (arith, (rw c.in-End.is at c.read_members-member_run.ensures.1).0)
+
+pub overflow_sub-result-2 : goal.overflow_sub-result-2
+overflow_sub-result-2 c = omega (arith, (rw c.in-End-record_run.is at c.read_records-record_run.ensures.1).0)
+
+pub returns : goal.returns
+unfolding tables_at
+returns c =
+    let member-count-is = sym c.case_number.ensures.0 ∙ c.in-Value.is in
+    let member-run-is = sym c.read_members-member_run.ensures.0 ∙ c.in-End.is in
+    let record-count-is = sym c.case_number-2.ensures.0 ∙ c.in-Value-case_number.is in
+    let record-run-is = sym c.read_records-record_run.ensures.0 ∙ c.in-End-record_run.is in
+    sym (rw (member-count-is, member-run-is, record-count-is, record-run-is))

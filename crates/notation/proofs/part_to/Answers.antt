@@ -1,0 +1,31 @@
+-- `notation::part_to` meets its contract. A byte that is found lies at the place or after it.
+-- Assumes nothing.
+use native.Mathlib.Omega.{arith}
+use mathlib.Core.Path.{◌≡◌, ◌∙◌, sym, subst}
+use Rattle.fieldtype.specs.Search.{first_from, found_inside}
+use Rattle.fieldtype.specs.declared.Found.{Found}
+use Rattle.fieldtype.specs.declared.Found.TheVariants.{At}
+use Rattle.fieldtype.proofs.Bounds.{found-inside}
+use Rattle.notation.specs.Parts.{part_to}
+use Rattle.notation.proofs.part_to.Goals as goal
+use Rattle.notation.proofs.part_to.Goals.{In-At}
+
+pub returns-in_default : goal.returns-in_default
+unfolding part_to
+returns-in_default c = c.part_at.ensures ∙ sym (rw (sym c.find_byte.ensures ∙ c.in_default.is))
+
+-- the byte
+found :
+    (c : In-At) →
+    first_from c.args.byte c.args.text.now c.args.at ≡ At c.in-At.end
+found c = sym c.find_byte.ensures ∙ c.in-At.is
+
+pub overflow_sub-end : goal.overflow_sub-end
+overflow_sub-end c =
+    let a = c.args in
+    let inside = subst (λ (r : Found). found_inside r a.text.now a.at) (found (goal.at.overflow_sub-end c).In-At) (found-inside a.byte a.text.now a.at) in
+    omega (arith, inside)
+
+pub returns : goal.returns
+unfolding part_to
+returns c = c.part_at-2.ensures ∙ sym (rw (found (goal.at.returns c).In-At))

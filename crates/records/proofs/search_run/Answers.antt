@@ -1,0 +1,25 @@
+-- `records::search_run` meets its contract. Record i by itself, and those after it; behind the last there is none.
+-- Assumes nothing.
+use Rattle.std.proofs.Common.{◌∙◌, sym, arith}
+use native.Mathlib.Numerals.{add-one}
+use mathlib.Core.Path.{ap}
+use mathlib.Core.List.{List}
+use Prim.Native.Nat.{ℕ}
+use Rattle.search.specs.declared.NamePlace.{NamePlace}
+use Rattle.search.specs.Search.{first_match}
+use Rattle.records.specs.Run.{viewed_all}
+use Rattle.records.proofs.Search.{found_from, found_next, found_over}
+use Rattle.records.proofs.search_run.Goals as goal
+
+pub loop-i-preserved : goal.loop-i-preserved
+loop-i-preserved c =
+    let l = c.loop-i in
+    let a = c.args in
+    rw (add-one, c.name_or-found.ensures)
+    (found_next a.run.now a.slot a.load l.i l.found (omega arith) ∙ l.invariant)
+
+pub returns : goal.returns
+returns c =
+    let l = c.loop-i in
+    let a = c.args in
+    sym (found_over a.run.now a.slot a.load l.i l.found (omega arith)) ∙ l.invariant
