@@ -1,6 +1,7 @@
 // A cell of the lent stack: an opaque slot, or the load of a local, as a number (document 01, "Numbers returned"; document
 // 02, request 7).
 #![tactic(auto)]
+
 ghost use Rattle.std.specs.Prelude.{◌≡◌, length, replicate};
 ghost use Rattle.cell.specs.Cell.{packed, unpacked};
 

@@ -1,17 +1,16 @@
 -- Types one after the other: what stands at an index decides how the list goes on.
 -- Assumes nothing.
 use Prim.Native.Nat.{ℕ, zero, suc, ◌+◌, ◌≤◌, ◌<◌}
-use native.Mathlib.Nat.{not-suc-le-zero}
 use native.Mathlib.Omega.{arith}
-use mathlib.Core.Path.{◌≡◌, refl, ◌∙◌, sym, ap, subst}
+use mathlib.Core.Path.{◌≡◌, refl, ◌∙◌, ap}
 use mathlib.Core.Bool.{Bool, true, false}
-use mathlib.Core.List.{List, [], ◌∷◌}
+use mathlib.Core.List.{List}
 use lib.Dec.{eqb}
 use lib.ListN.{length}
 use borrow.Author.Tests.{le-leb, lt-leb, eq-eqb, ne_eqb}
 use Rattle.basics.specs.Bytes.{byte_at}
 use Rattle.basics.specs.Choice.{pick, both}
-use Rattle.fieldtype.specs.Types.{field_type_at, taken_inside, is_wide, type_slots, Types, over, unread, one, types_step, list_over, types_from, types_at}
+use Rattle.fieldtype.specs.Types.{field_type_at, taken_inside, is_wide, type_slots, over, unread, one, types_step, list_over, types_from, types_at}
 use Rattle.fieldtype.specs.declared.FieldType.{FieldType}
 use Rattle.fieldtype.specs.declared.Taken.{Taken}
 use Rattle.fieldtype.specs.declared.Taken.TheVariants.{Field, Unreadable}

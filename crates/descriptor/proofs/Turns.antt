@@ -3,13 +3,10 @@
 use Prim.Native.Nat.{ℕ, ◌+◌}
 use native.Mathlib.Omega.{arith}
 use mathlib.Core.Path.{◌≡◌, refl, ap, ap₂}
-use mathlib.Core.Bool.{Bool}
-use lib.Dec.{eqb}
 use borrow.Author.Tests.{eq-eqb, ne_eqb}
 use Rattle.fieldtype.specs.Types.{type_slots, Types, over, unread, one}
 use Rattle.descriptor.specs.Readers.{slots_of, judged, starting_at}
 use Rattle.fieldtype.specs.declared.FieldType.{FieldType}
-use Rattle.fieldtype.specs.declared.Found.{Found}
 use Rattle.fieldtype.specs.declared.Found.TheVariants.{At, Absent}
 use Rattle.descriptor.specs.declared.Params.{Params}
 use Rattle.descriptor.specs.declared.Params.TheVariants.{Read, Unreadable}

@@ -1,5 +1,6 @@
 // Descriptors, read leniently (document 01, "Descriptors"; document 02, request 2).
 #![tactic(auto)]
+
 ghost use Rattle.std.specs.Prelude.{◌≡◌};
 ghost use Rattle.basics.specs.Choice.{pick};
 ghost use Rattle.fieldtype.specs.declared.Found.TheVariants.{At};

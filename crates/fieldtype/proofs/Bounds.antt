@@ -1,8 +1,8 @@
 -- What is found, and what is read, lies in the text.
 -- Assumes nothing.
-use Prim.Native.Nat.{ℕ, ◌+◌, ◌-◌, ◌≤◌, ◌<◌}
+use Prim.Native.Nat.{ℕ, ◌+◌, ◌≤◌, ◌<◌}
 use native.Mathlib.Omega.{arith}
-use mathlib.Core.Path.{◌≡◌, refl, subst}
+use mathlib.Core.Path.{◌≡◌, refl}
 use mathlib.Core.Bool.{Bool, true, false}
 use mathlib.Core.List.{List, [], ◌∷◌}
 use lib.Dec.{eqb, leb}
@@ -16,7 +16,7 @@ use Rattle.fieldtype.specs.Types.{brackets, class_type, base_type, type_behind, 
 use Rattle.fieldtype.specs.declared.Found.{Found}
 use Rattle.fieldtype.specs.declared.Found.TheVariants.{At, Absent}
 use Rattle.fieldtype.specs.declared.Taken.{Taken}
-use Rattle.fieldtype.specs.declared.Taken.TheVariants.{Field, Unreadable}
+use Rattle.fieldtype.specs.declared.Taken.TheVariants.{Unreadable}
 
 -- a place found in a list whose first byte stands at an index
 abbrev Among : Found → ℕ → ℕ → Type 0

@@ -1,10 +1,10 @@
 -- One type of a descriptor, and types one after the other (document 01, "Descriptors", lenient).
 -- Assumes nothing.
-use Rattle.std.specs.Prelude.{ℕ, zero, suc, ◌+◌, ◌-◌, ◌≤◌, ◌<◌, Bool, true, false, List, [], ◌∷◌, eqb, leb, length, drop}
+use Rattle.std.specs.Prelude.{ℕ, zero, suc, ◌+◌, ◌≤◌, ◌<◌, Bool, true, false, List, [], ◌∷◌, eqb, leb, length, drop}
 use Rattle.basics.specs.Ascii.{ascii}
 use Rattle.basics.specs.Bytes.{byte_at}
 use Rattle.basics.specs.Choice.{pick, both}
-use Rattle.fieldtype.specs.Search.{first_in, first_from}
+use Rattle.fieldtype.specs.Search.{first_from}
 use Rattle.fieldtype.specs.declared.Found.{Found}
 use Rattle.fieldtype.specs.declared.Found.TheVariants.{At, Absent}
 use Rattle.fieldtype.specs.declared.FieldType.{FieldType}

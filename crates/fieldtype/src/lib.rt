@@ -1,5 +1,6 @@
 // One type of a descriptor, read leniently (document 01, "Descriptors").
 #![tactic(auto)]
+
 ghost use Rattle.std.specs.Prelude.{◌≡◌, ◌+◌, drop};
 ghost use Rattle.fieldtype.specs.Search.{first_from};
 ghost use Rattle.fieldtype.specs.Types.{is_wide, brackets, field_type_at, type_slots};

@@ -1,6 +1,7 @@
 // The texts of a case (document 01, "The case"), and parts of its bytes. No copy is made.
 // Every function takes any bytes and any place. What cannot be read is answered, never assumed away.
 #![tactic(auto)]
+
 ghost use Rattle.std.specs.Prelude.{◌≡◌, length};
 ghost use Rattle.items.specs.Text.{text_at, text_within, part_at, text_part, after_text, class_of, name_of, descriptor_of};
 

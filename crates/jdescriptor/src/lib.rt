@@ -1,6 +1,7 @@
 // The strict descriptor readers, of a type and of a method (document 01, "Descriptors", strict). A text is judged first and
 // its numbers are written after, so that a refusal leaves the lent buffer alone.
 #![tactic(auto)]
+
 ghost use Rattle.std.specs.Prelude.{◌≡◌, ◌+◌, ◌*◌, ◌≤◌, ◌<◌, length};
 ghost use Rattle.basics.specs.Parts.{overlaid};
 ghost use Rattle.judging.specs.Reading.{type_reading, return_at, method_reading};

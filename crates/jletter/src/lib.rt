@@ -1,6 +1,7 @@
 // The letters of a strict descriptor (document 01, "Descriptors", strict): where a class name ends, and which letters are base types.
 // Every function takes any text and any place.
 #![tactic(auto)]
+
 ghost use Rattle.std.specs.Prelude.{◌≡◌};
 ghost use Rattle.jletter.specs.Letter.{semicolon_from, is_base};
 

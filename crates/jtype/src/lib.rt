@@ -1,6 +1,7 @@
 // One type of a strict descriptor, at a place of a text (document 01, "Descriptors", strict).
 // Every function takes any text and any place.
 #![tactic(auto)]
+
 ghost use Rattle.std.specs.Prelude.{◌≡◌, ◌+◌, drop};
 ghost use Rattle.jletter.specs.Letter.{semicolon_from};
 ghost use Rattle.jtype.specs.OneType.{brackets, unnamed_type, class_type, element, type_at};

@@ -1,5 +1,6 @@
 // A method's strict descriptor judged (document 01, "Descriptors", strict): how many types it has, or its first refusal.
 #![tactic(auto)]
+
 ghost use Rattle.std.specs.Prelude.{◌≡◌, ◌<◌, length};
 ghost use Rattle.judging.specs.Judged.{judged, raised};
 ghost use Rattle.judging.specs.Reading.{return_at, method_reading};

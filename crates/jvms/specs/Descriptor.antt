@@ -2,7 +2,7 @@
 -- tree. Written from JVMS alone, no reader in mind.
 -- A class name here is any run of bytes that is not empty and holds no `;`: JVMS 4.2 forbids more.
 -- Assumes nothing.
-use Rattle.std.specs.Prelude.{ℕ, zero, suc, ◌+◌, ◌≤◌, ◌≡◌, List, [], ◌∷◌, ◌++◌}
+use Rattle.std.specs.Prelude.{ℕ, suc, ◌+◌, ◌≤◌, ◌≡◌, List, [], ◌∷◌, ◌++◌}
 
 -- "BaseType: one of B C D F I J S Z"
 pub data BaseType : Type 0 where

@@ -1,6 +1,6 @@
 -- A number lies in the bytes that it is read from; and a number by its first group, as the code reads it.
 -- Assumes nothing.
-use Prim.Native.Nat.{ℕ, zero, suc, ◌+◌, ◌-◌, ◌*◌, ◌/◌, ◌≤◌, ◌<◌}
+use Prim.Native.Nat.{ℕ, suc, ◌+◌, ◌-◌, ◌*◌, ◌/◌, ◌≤◌, ◌<◌}
 use native.Mathlib.Omega.{arith}
 use native.Mathlib.Numerals.{add-one}
 use mathlib.Core.Path.{◌≡◌, ◌∙◌, refl, sym, subst}
@@ -9,9 +9,9 @@ use mathlib.Core.List.{List, [], ◌∷◌}
 use lib.Dec.{eqb, ltb, leb}
 use lib.ListN.{length, get_or, drop, length-drop, drop_of_length-le}
 use lib.Seq.{drop-cons}
-use borrow.Author.Tests.{lt-ltb, le-ltb, le-leb, lt-leb, eq-eqb, ne_eqb, eqb-true, eqb-false, ltb-true, ltb-false, leb-true, leb-false}
+use borrow.Author.Tests.{lt-ltb, le-ltb, le-leb, lt-leb, eqb-false, ltb-true, ltb-false, leb-true, leb-false}
 use Rattle.basics.specs.Choice.{pick}
-use Rattle.number.specs.Number.{greatest, further, grouped, number_from, limited, number_at, number_within, rest_within, then_number}
+use Rattle.number.specs.Number.{further, grouped, number_from, limited, number_at, number_within, rest_within}
 use Rattle.number.specs.declared.Number.{Number}
 use Rattle.number.specs.declared.Number.TheVariants.{Value, NotNumber}
 

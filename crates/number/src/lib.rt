@@ -1,5 +1,6 @@
 // The numbers of a case (document 01, "The case"): seven bits to a byte, low group first. Every function takes any bytes and any place.
 #![tactic(auto)]
+
 ghost use Rattle.std.specs.Prelude.{◌≡◌, ◌<◌, length};
 ghost use Rattle.number.specs.Number.{greatest, further, number_at, number_within, rest_within};
 

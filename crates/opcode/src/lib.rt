@@ -1,6 +1,7 @@
 // The opcode numbers of the Java Virtual Machine (JVMS 6.5; the reserved ones, JVMS 6.2), as constants of one type.
 // Names and groups are those of the Rust's opcode.rs.
 #![tactic(auto)]
+
 #[derive(Clone, Copy)]
 pub struct Opcode {}
 

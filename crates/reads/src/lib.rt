@@ -1,6 +1,7 @@
 // Numbers in a run of bytes, most significant byte first. Every function takes any bytes and any index: a byte past the end reads
 // as 0.
 #![tactic(auto)]
+
 ghost use Rattle.std.specs.Prelude.{◌≡◌, ◌*◌, ◌^◌, ◌≤◌, ◌<◌};
 ghost use Rattle.basics.specs.Bytes.{byte_at, u16_at, u32_at};
 ghost use Rattle.reads.specs.Signed.{lifted, i16_at, i32_at};

@@ -1,5 +1,6 @@
 // Why a strict descriptor is refused, with document 01's numbers ("Descriptors", strict).
 #![tactic(auto)]
+
 ghost use Rattle.std.specs.Prelude.{◌≡◌};
 ghost use Rattle.refusal.specs.Refusal.{number_of};
 

@@ -2,6 +2,7 @@
 // place after it is answered all the same. So nothing is asked of a caller, and a text is measured by writing it from the
 // output's end on.
 #![tactic(auto)]
+
 ghost use Rattle.std.specs.Prelude.{◌≡◌, [], ◌∷◌, ◌+◌, min, ◌<◌, length};
 ghost use Rattle.text.specs.Decimal.{decimal};
 ghost use Rattle.text.specs.Writing.{most, splice, Written};

@@ -1,6 +1,6 @@
 -- `descriptor::parameter_at` meets its contract. The loop's invariant: the parameter sought from here is the one sought from the start.
 -- Assumes nothing.
-use Prim.Native.Nat.{ℕ, ◌-◌, ◌≤◌}
+use Prim.Native.Nat.{ℕ, ◌≤◌}
 use native.Mathlib.Omega.{arith}
 use mathlib.Core.Bool.{Bool, true, false}
 use mathlib.Core.Path.{◌≡◌, ◌∙◌, sym, subst, ap}

@@ -1,6 +1,5 @@
 -- `descriptor::parse_method_params` meets its contract. The loop's invariant: the list from here, with the slots so far, is judged as the list from the start.
 -- Assumes nothing.
-use Prim.Native.Nat.{◌-◌}
 use native.Mathlib.Omega.{arith}
 use mathlib.Core.Path.{◌≡◌, ◌∙◌, sym, subst}
 use borrow.Author.Tests.{eq-eqb, ne_eqb}

@@ -1,6 +1,5 @@
 -- `fieldtype::after_brackets` meets its contract. The loop's invariant: the brackets from here end where those from the start do.
 -- Assumes nothing.
-use Prim.Native.Nat.{◌-◌}
 use native.Mathlib.Omega.{arith}
 use mathlib.Core.Path.{◌∙◌}
 use Rattle.fieldtype.proofs.Steps.{bracket_here, no_bracket, no_byte}

@@ -1,6 +1,5 @@
 -- `fieldtype::find_byte` meets its contract. The loop's invariant: what is found from here is what is found from the start.
 -- Assumes nothing.
-use Prim.Native.Nat.{◌-◌}
 use native.Mathlib.Omega.{arith}
 use mathlib.Core.Path.{◌∙◌}
 use Rattle.fieldtype.proofs.Steps.{found_here, found_later, found_nowhere}

@@ -21,16 +21,19 @@ unfolding type_reading answer written numbers_of
 returns-else-numbers-lt4 c =
     let e =
     sym c.get_next.ensures
-    ∙ c.in-Is.is in record { value = rw (
+    ∙ c.in-Is.is in record {
+      value = rw (
         e,
         le-ltb _ _ c.if-end-text.false,
         le-ltb _ _ c.if-numbers-lt4.false,
-      ); numbers_after = rw (
+      );
+      numbers_after = rw (
         e,
         le-ltb _ _ c.if-end-text.false,
         le-ltb _ _ c.if-numbers-lt4.false,
       )
-          c.put_record.ensures }
+          c.put_record.ensures;
+    }
 
 pub returns-in-Close : goal.returns-in-Close
 unfolding type_reading answer written

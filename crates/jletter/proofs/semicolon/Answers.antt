@@ -1,6 +1,5 @@
 -- `jletter::semicolon` meets its contract. The loop's invariant: the first semicolon from here is the first from the start.
 -- Assumes nothing.
-use Prim.Native.Nat.{◌-◌}
 use native.Mathlib.Omega.{arith}
 use mathlib.Core.Path.{◌∙◌}
 use borrow.Author.Tests.{eq-eqb, ne_eqb}

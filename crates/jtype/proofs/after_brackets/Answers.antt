@@ -1,6 +1,5 @@
 -- `jtype::after_brackets` meets its contract. The loop's invariant: the place after the brackets from here is that from the start.
 -- Assumes nothing.
-use Prim.Native.Nat.{◌-◌}
 use native.Mathlib.Omega.{arith}
 use mathlib.Core.Path.{◌∙◌, sym}
 use borrow.Author.Tests.{eq-eqb, ne_eqb}

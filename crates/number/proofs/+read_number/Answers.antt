@@ -6,7 +6,7 @@ use mathlib.Core.List.{List}
 use mathlib.Core.Path.{◌≡◌, ◌∙◌, sym}
 use lib.ListN.{length, get_or}
 use borrow.Author.Tests.{le-leb, lt-leb, eq-eqb, ne_eqb}
-use Rattle.number.specs.Number.{number_at, number_within, further}
+use Rattle.number.specs.Number.{number_at, further}
 use Rattle.number.specs.declared.Number.{Number}
 use Rattle.number.specs.declared.Number.TheVariants.{NotNumber}
 use Rattle.number.proofs.Laws.{whole, number_past, number_small, number_more, number_one}

@@ -1,6 +1,6 @@
 -- `text::put` meets its contract. The loop's invariant: so many bytes of the part are written, and the rest is as it was.
 -- Assumes nothing.
-use Prim.Native.Nat.{◌-◌, ◌<◌}
+use Prim.Native.Nat.{◌<◌}
 use native.Mathlib.Omega.{arith}
 use mathlib.Core.Path.{refl}
 use lib.ListN.{length, length-set}

@@ -1,7 +1,7 @@
 -- `text::put_decimal` meets its contract. The loop's invariant: the digits of what is left, written over the output, make it what the
 -- whole number makes of it.
 -- Assumes nothing.
-use Prim.Native.Nat.{◌-◌, ◌≤◌}
+use Prim.Native.Nat.{◌≤◌}
 use mathlib.Core.Path.{◌≡◌}
 use lib.ListN.{length}
 use Rattle.text.specs.Decimal.{decimal}
