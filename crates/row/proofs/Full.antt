@@ -5,8 +5,6 @@ use Prim.Native.Nat.{ℕ, ◌+◌, ◌-◌, ◌<◌}
 use native.Mathlib.Omega.{arith}
 use mathlib.Core.Path.{◌≡◌, refl, ◌∙◌, sym, ap}
 use mathlib.Core.List.{List, [], ◌∷◌}
-use types.Run.{OneOf, miss}
-use denote.Enum.Declared.{tag_of}
 use borrow.Author.Tests.{lt-ltb, le-ltb}
 use Rattle.effects.specs.Rows.{Row, unmodelled, opaque, aload, aloadFar, aload_of, carries, keeps, gets, calls, puts, makes}
 use Rattle.effects.specs.Rows.{or_row, row_of, added_row, widened_row, wide_row, full_row_of, rows_of}
@@ -17,14 +15,10 @@ use Rattle.row.specs.Code.{row_from}
 use Rattle.row.specs.declared.Row.{Row as CodeRow}
 use Rattle.row.specs.declared.Row.TheVariants.{Unmodelled, Opaque, Aload, AloadFar, AloadOf, Copies, Swap, Keeps, Gets, Calls, Puts, Makes}
 use Rattle.row.proofs.OfOpcode.{all_have}
-use Rattle.row.specs.contracts.Row.{the_type}
 
--- the numbers of all variants but the first, Unmodelled
-abbrev some_row : List ℕ
-some_row = 1 ∷ 2 ∷ 3 ∷ 4 ∷ 5 ∷ 6 ∷ 7 ∷ 8 ∷ 9 ∷ 10 ∷ 11 ∷ []
-
-kept : (row : CodeRow) (other : Row) → OneOf some_row (tag_of the_type row) → row_from row ≡ or_row (row_from row) other
-kept Unmodelled other o = absurd (miss some_row 0 tt o)
+-- a row that document 01's table has stays, whatever is added
+kept : (row : CodeRow) (other : Row) → (row ≡ Unmodelled → ⊥) → row_from row ≡ or_row (row_from row) other
+kept Unmodelled other o = absurd (o refl)
 kept (Opaque takes gives) other o = refl
 kept Aload other o = refl
 kept AloadFar other o = refl
@@ -60,7 +54,7 @@ full_added op below row found e =
     (ap (λ (r : Row). or_row r (or_row (added_row op) unmodelled)) (ap row_from (sym e) ∙ found))
 
 pub kept_in :
-    (model : Model) (op : ℕ) (row : CodeRow) → row_from row ≡ row_of op → OneOf some_row (tag_of the_type row) →
+    (model : Model) (op : ℕ) (row : CodeRow) → row_from row ≡ row_of op → (row ≡ Unmodelled → ⊥) →
     row_from row ≡ rows_of model op
 unfolding full_row_of
 kept_in Document op row found o = found

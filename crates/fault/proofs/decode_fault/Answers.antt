@@ -85,8 +85,8 @@ pub returns-in-182-to-183 : goal.returns-in-182-to-183
 returns-in-182-to-183 c =
     let a = c.args in
     let op : ℕ = byte_at a.code.now a.fault in
-    let rest = c.in_default-1.rest in
-    let behind = decode.behind_fields op c.if-op-lt180.false rest.0.0.0.0.0.0.1 rest.0.0.0.0.0.1 in
+    let rest = c.in-182-to-183.in_default-own.rest in
+    let behind = decode.behind_fields op c.in-182-to-183.if-op-lt180-own.false rest.0.0.0.0.0.0.1 rest.0.0.0.0.0.1 in
     c.invoke_fault-in-182-to-183.ensures
     ∙ decode.as_special a.code.now a.members.now a.count a.fault op behind c.in-182-to-183.if-op-lt184-own.true
     ∙ decode.inside a.code.now a.members.now a.count a.fault op (omega arith) refl
@@ -98,7 +98,7 @@ returns-in_default c =
     let op : ℕ = byte_at a.code.now a.fault in
     decode.nothing_at a.code.now a.members.now a.count a.fault op
     (decode.none_so (rule_of op)
-    (every_unkeyed (λ k. decode.is_none (rule_of k)) arms 0 46 tt op (omega arith) (omega arith) c.in_default-1.rest))
+    (every_unkeyed (λ k. decode.is_none (rule_of k)) arms 0 46 tt op (omega arith) (omega arith) c.in_default.in_default-own.rest))
     ∙ decode.inside a.code.now a.members.now a.count a.fault op (omega arith) refl
 
 pub returns-in_default-2 : goal.returns-in_default-2
@@ -106,7 +106,7 @@ unfolding rule_of
 returns-in_default-2 c =
     let a = c.args in
     let op : ℕ = byte_at a.code.now a.fault in
-    let rest = c.in_default-1.rest in
+    let rest = c.in_default.in_default-own.rest in
     decode.nothing_at a.code.now a.members.now a.count a.fault op
     (decode.none_so (rule_of op)
     (every_unkeyed (λ k. decode.is_none (rule_of k)) arms 54 25 tt op (omega arith) (omega arith) rest))
@@ -117,7 +117,7 @@ unfolding rule_of
 returns-in_default-3 c =
     let a = c.args in
     let op : ℕ = byte_at a.code.now a.fault in
-    let rest = c.in_default-1.rest in
+    let rest = c.in_default.in_default-own.rest in
     decode.nothing_at a.code.now a.members.now a.count a.fault op
     (decode.none_so (rule_of op)
     (every_unkeyed (λ k. decode.is_none (rule_of k)) arms 87 95 tt op (omega arith) (omega arith) rest))
@@ -129,7 +129,7 @@ returns-in_default-4 c =
     let a = c.args in
     let op : ℕ = byte_at a.code.now a.fault in
     let byte = c.shared_slice_known-1.given in
-    let rest = c.in_default-1.rest in
+    let rest = c.in_default.in_default-own.rest in
     decode.nothing_at a.code.now a.members.now a.count a.fault op
     (decode.none_so (rule_of op)
     (every_unkeyed (λ k. decode.is_none (rule_of k)) arms 184 72 tt op c.in_default.if-op-lt184-own.false (byte a.fault).fits rest))

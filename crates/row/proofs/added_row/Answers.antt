@@ -27,16 +27,16 @@ pub returns-in-194-to-195 : goal.returns-in-194-to-195
 unfolding added_row
 returns-in-194-to-195 c =
     all_unkeyed added_row (opaque 1 0) arms 194 2 tt c.args.op (omega arith) (omega arith)
-    c.in_default-1.rest
+    c.in-194-to-195.in_default-own.rest
 
 pub returns-in_default : goal.returns-in_default
 unfolding added_row
 returns-in_default c =
     all_unkeyed added_row unmodelled arms 153 41 tt c.args.op (omega arith) (omega arith)
-    c.in_default-1.rest
+    c.in_default.in_default-own.rest
 
 pub returns-in_default-2 : goal.returns-in_default-2
 unfolding added_row
 returns-in_default-2 c =
     all_unkeyed added_row unmodelled arms 196 60 tt c.args.op (omega arith) (omega arith)
-    c.in_default-1.rest
+    c.in_default.in_default-own.rest

@@ -23,25 +23,25 @@ pub returns-in-149 : goal.returns-in-149
 unfolding added_row
 returns-in-149 c =
     all_unkeyed added_row (opaque 2 1) arms 148 3 tt c.args.op (omega arith) (omega arith)
-    c.in_default-1.rest
+    c.in-149.in_default-own.rest
 
 pub returns-in_default : goal.returns-in_default
 unfolding added_row
 returns-in_default c =
     all_unkeyed added_row (opaque 1 1) arms 132 4 tt c.args.op (omega arith) (omega arith)
-    c.in_default-1.rest
+    c.in_default.in_default-own.rest
 
 pub returns-in_default-2 : goal.returns-in_default-2
 unfolding added_row
 returns-in_default-2 c =
     all_unkeyed added_row (opaque 1 1) arms 138 2 tt c.args.op (omega arith) (omega arith)
-    c.in_default-1.rest
+    c.in_default.in_default-own.rest
 
 pub returns-in_default-3 : goal.returns-in_default-3
 unfolding added_row
 returns-in_default-3 c =
     all_unkeyed added_row (opaque 1 1) arms 142 6 tt c.args.op (omega arith) (omega arith)
-    c.in_default-1.rest
+    c.in_default.in_default-own.rest
 
 pub returns-in_default-4 : goal.returns-in_default-4
 returns-in_default-4 c = absurd (omega arith)
@@ -54,7 +54,7 @@ pub returns-in-148-2 : goal.returns-in-148-2
 unfolding added_row
 returns-in-148-2 c =
     all_unkeyed added_row (opaque 4 1) arms 151 2 tt c.args.op (omega arith) (omega arith)
-    c.in_default-1.rest
+    c.in-148.in_default-own.rest
 
 pub returns-in-136 : goal.returns-in-136
 unfolding added_row
@@ -64,7 +64,7 @@ pub returns-in-136-2 : goal.returns-in-136-2
 unfolding added_row
 returns-in-136-2 c =
     all_unkeyed added_row (opaque 2 1) arms 135 3 tt c.args.op (omega arith) (omega arith)
-    c.in_default-1.rest
+    c.in-136.in_default-own.rest
 
 pub returns-in-133 : goal.returns-in-133
 unfolding added_row
@@ -74,4 +74,4 @@ pub returns-in-133-2 : goal.returns-in-133-2
 unfolding added_row
 returns-in-133-2 c =
     all_unkeyed added_row (opaque 1 2) arms 140 2 tt c.args.op (omega arith) (omega arith)
-    c.in_default-1.rest
+    c.in-133.in_default-own.rest

@@ -67,7 +67,7 @@ pub returns-in-26-to-29 : goal.returns-in-26-to-29
 unfolding row_of
 returns-in-26-to-29 c =
     all_unkeyed row_of (opaque 0 1) arms 20 10 tt c.args.op
-    (omega arith) (omega arith) c.in_default-1.rest
+    (omega arith) (omega arith) c.in-26-to-29.in_default-own.rest
 
 pub returns-in-30-to-33 : goal.returns-in-30-to-33
 unfolding row_of
@@ -107,7 +107,7 @@ pub returns-in_default : goal.returns-in_default
 unfolding row_of
 returns-in_default c =
     all_unkeyed row_of (opaque 1 0) arms 54 9 tt c.args.op
-    (omega arith) (omega arith) c.in_default-1.rest
+    (omega arith) (omega arith) c.in_default.in_default-own.rest
 
 pub returns-in_default-2 : goal.returns-in_default-2
 unfolding row_of
@@ -123,10 +123,10 @@ returns-in_default-3 c =
 
 pub returns-in-46-to-53 : goal.returns-in-46-to-53
 unfolding row_of
-returns-in-46-to-53 c = ⊎_elim (λ e. rw e) (λ e. rw e) c.in-46-to-53.is
+returns-in-46-to-53 c = ⊎_elim (λ e. rw e) (λ e. rw e) c.in-46-to-53.in-46-to-53-own.keys6
 
 pub returns-in-46-to-53-2 : goal.returns-in-46-to-53-2
 unfolding row_of
 returns-in-46-to-53-2 c =
     all_unkeyed row_of (opaque 2 1) arms 46 8 tt c.args.op
-    (omega arith) (omega arith) c.in_default-1.rest
+    (omega arith) (omega arith) c.in-46-to-53.in_default-own.rest

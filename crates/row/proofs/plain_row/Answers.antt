@@ -18,4 +18,4 @@ returns-in_default-model c = rw c.in_default-model.is c.row_of-row.ensures
 pub returns-in_default : goal.returns-in_default
 returns-in_default c =
     let a = c.args in
-    kept_in a.model a.op c.row_of-row.result c.row_of-row.ensures c.in_default.is
+    kept_in a.model a.op c.row_of-row.result c.row_of-row.ensures c.in_default.not-Unmodelled

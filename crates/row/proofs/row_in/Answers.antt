@@ -9,14 +9,12 @@ pub returns-in-Plain : goal.returns-in-Plain
 returns-in-Plain c =
     let a = c.args in
     let op : ℕ = c.in-Plain.op in
-    let few = few_so a.model op (omega (arith, c.in-Plain.known_told-1-own.given)) c.plain-Row.result c.plain-Row.ensures in
-    let all = rw c.in-Plain.is (c.plain-Row.ensures, few) in
-    record { row = all.0; few = all.1 }
+    let few = few_so a.model op (omega (arith, c.in-Plain.known_told-1-own.given)) c.plain_row.result c.plain_row.ensures in
+    record { row = rw c.in-Plain.is c.plain_row.ensures; few = few }
 
 pub returns-in-Wide : goal.returns-in-Wide
 returns-in-Wide c =
     let a = c.args in
     let op : ℕ = c.in-Wide.op in
-    let few = few_so a.model (256 + op) (omega (arith, c.in-Wide.known_told-in-Wide-1-own.given)) c.Wide-Row.result c.Wide-Row.ensures in
-    let all = rw c.in-Wide.is (c.Wide-Row.ensures, few) in
-    record { row = all.0; few = all.1 }
+    let few = few_so a.model (256 + op) (omega (arith, c.in-Wide.known_told-in-Wide-1-own.given)) c.wide_row.result c.wide_row.ensures in
+    record { row = rw c.in-Wide.is c.wide_row.ensures; few = few }

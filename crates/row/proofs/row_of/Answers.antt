@@ -69,25 +69,25 @@ pub returns-in-188-to-190 : goal.returns-in-188-to-190
 unfolding row_of
 returns-in-188-to-190 c =
     all_unkeyed row_of (opaque 1 1) arms 187 4 tt c.args.op
-    (omega arith) (omega arith) c.in_default-1.rest
+    (omega arith) (omega arith) c.in-188-to-190.in_default-own.rest
 
 pub returns-in_default : goal.returns-in_default
 unfolding row_of
 returns-in_default c =
     all_unkeyed row_of unmodelled arms 79 103 tt c.args.op
-    (omega arith) (omega arith) c.in_default-1.rest
+    (omega arith) (omega arith) c.in_default.in_default-own.rest
 
 pub returns-in_default-2 : goal.returns-in_default-2
 unfolding row_of
 returns-in_default-2 c =
     all_unkeyed row_of unmodelled arms 184 3 tt c.args.op
-    (omega arith) (omega arith) c.in_default-1.rest
+    (omega arith) (omega arith) c.in_default.in_default-own.rest
 
 pub returns-in_default-3 : goal.returns-in_default-3
 unfolding row_of
 returns-in_default-3 c =
     all_unkeyed row_of unmodelled arms 191 65 tt c.args.op
-    (omega arith) (omega arith) c.in_default-1.rest
+    (omega arith) (omega arith) c.in_default.in_default-own.rest
 
 pub returns-in-182 : goal.returns-in-182
 unfolding row_of

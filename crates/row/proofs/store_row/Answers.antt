@@ -35,20 +35,20 @@ pub returns-in_default : goal.returns-in_default
 unfolding added_row
 returns-in_default c =
     all_unkeyed added_row unmodelled arms 0 79 tt c.args.op (omega arith) (omega arith)
-    c.in_default-1.rest
+    c.in_default.in_default-own.rest
 
 pub returns-in_default-2 : goal.returns-in_default-2
 unfolding added_row
 returns-in_default-2 c =
     all_unkeyed added_row unmodelled arms 87 9 tt c.args.op (omega arith) (omega arith)
-    c.in_default-1.rest
+    c.in_default.in_default-own.rest
 
 pub returns-in-79-to-86 : goal.returns-in-79-to-86
 unfolding added_row
-returns-in-79-to-86 c = of_keys added_row (opaque 3 0) (79 ∷ 81 ∷ []) tt c.args.op c.in-79-to-86.is
+returns-in-79-to-86 c = of_keys added_row (opaque 3 0) (79 ∷ 81 ∷ []) tt c.args.op c.in-79-to-86.in-79-to-86-own.keys2
 
 pub returns-in-79-to-86-2 : goal.returns-in-79-to-86-2
 unfolding added_row
 returns-in-79-to-86-2 c =
     all_unkeyed added_row (opaque 3 0) arms 79 8 tt c.args.op (omega arith) (omega arith)
-    c.in_default-1.rest
+    c.in-79-to-86.in_default-own.rest
