@@ -17,7 +17,7 @@ use Rattle.cell.proofs.Laws.{held_so, too_large}
 use Rattle.row.specs.Code.{swap_places}
 use Rattle.block.specs.Inner.{Clean, Laid}
 use Rattle.walk.specs.Room.{shown}
-use Rattle.walk.specs.Walk.{cells, Push, load, carried, does, refused, Made, made, pushed, applied, tooLarge}
+use Rattle.walk.specs.Walk.{cells, Push, load, carried, does, refused, Made, made, pushed, applied, too_large}
 use Rattle.block.specs.declared.Height.TheVariants.{Refused, Over, High}
 
 drop_replicate : (j n : ℕ) → drop {A = ℕ} j (replicate n 0) ≡ replicate (n - j) 0
@@ -145,7 +145,7 @@ module _ (c : List ℕ) (h : ℕ) (clean : Clean c h) where
   pub load_refused :
       (pc local : ℕ) → packed pc local ≡ TooLarge → Laid c Refused c (applied cells pc (does 0 (load local)) slots)
   load_refused pc local e =
-      let is : applied cells pc (does 0 (load local)) slots ≡ refused tooLarge =
+      let is : applied cells pc (does 0 (load local)) slots ≡ refused too_large =
       enough pc 0 (load local) (omega arith) ∙ rw (too_large pc local e) in
       rw is (record { answers = refl; leaves = refl })
 

@@ -13,7 +13,7 @@ use Rattle.jvms.specs.Stack.{key_at}
 use Rattle.fixed.specs.Fixed.{size_at}
 use Rattle.effects.specs.Lookup.{Lookup}
 use Rattle.effects.specs.Rows.{Row}
-use Rattle.walk.specs.Walk.{Reason, tooFew, cells, blanks, load, carried, unread, Effect, fails, does, effect_by, Made}
+use Rattle.walk.specs.Walk.{Reason, too_few, cells, blanks, load, carried, unread, Effect, fails, does, effect_by, Made}
 use Rattle.walk.specs.Walk.{refused, made, applied, goes, passes, landed, step}
 use Rattle.instruction.specs.Code.{bare}
 use Rattle.block.specs.Inner.{laid_in, Laid, Stepped}
@@ -29,7 +29,7 @@ module _ (stack : List ℕ) (answer : Height) (left : List ℕ) (pc : ℕ) (slot
 
   unread_fails :
       (b : Bool) (reason : Reason) → Laid stack answer left (refused reason) →
-      (other : Reason) → Laid stack answer left (pick b (refused other) (refused tooFew))
+      (other : Reason) → Laid stack answer left (pick b (refused other) (refused too_few))
   unread_fails true reason laid other = record { answers = laid.answers; leaves = laid.leaves }
   unread_fails false reason laid other = record { answers = laid.answers; leaves = laid.leaves }
 

@@ -10,8 +10,8 @@ use lib.ListN.{length}
 use Rattle.basics.proofs.Choice.{chosen}
 use Rattle.bytecode.specs.Length.{length_of}
 use Rattle.bytecode.specs.declared.Measure.{Measure}
-use Rattle.greatest.specs.Greatest.{greatest as greatestOf}
-use Rattle.leader.specs.Scan.{Instructions, ended as scanEnded, unmeasured, instruction, scan_from, instructions, scan_count, leaders_of, answered, block_leader}
+use Rattle.greatest.specs.Greatest.{greatest as greatest_of}
+use Rattle.leader.specs.Scan.{Instructions, ended as scan_ended, unmeasured, instruction, scan_from, instructions, scan_count, leaders_of, answered, block_leader}
 use Rattle.leader.specs.declared.Scan.{Scan}
 use Rattle.leader.specs.declared.Scan.TheVariants.{Leader, Unmeasured}
 use Rattle.leader.proofs.Scanning.{Turn, at_end, without, with_length, turn}
@@ -26,7 +26,7 @@ use Rattle.effects.specs.Lookup.{Lookup, lookup_in}
 use Rattle.effects.specs.Rows.{Row, rows_of}
 use Rattle.effects.specs.declared.Model.{Model}
 use Rattle.walk.specs.Room.{Completed, Roomed, lacks, fits, judged, completed, block_walk_in}
-use Rattle.walk.specs.Walk.{Marks, cells, Outcome, stops, goes, passes, Walked, done, failed, count_of as blockCount, overshot, ended, after, step, walk_from, walk}
+use Rattle.walk.specs.Walk.{Marks, cells, Outcome, stops, goes, passes, Walked, done, failed, count_of as block_count, overshot, ended, after, step, walk_from, walk}
 use Rattle.cell.specs.declared.Slot.{Slot}
 use Rattle.cell.specs.declared.Slot.TheVariants.{Other, Loaded}
 use Rattle.fault.specs.Decoding.{decoded}
@@ -61,7 +61,7 @@ count_of (Unmeasured at count) = count
 
 count_kept : (i : Instructions) (leader count : ℕ) → count_of (answered i leader count) ≡ count
 unfolding answered
-count_kept scanEnded leader count = refl
+count_kept scan_ended leader count = refl
 count_kept (unmeasured pc) leader count = refl
 count_kept (instruction pc n rest) leader count = count_kept rest leader count
 
@@ -71,33 +71,33 @@ scanned code fault =
     let found = instructions length_of code in
     omega (
       arith,
-      count_kept found (greatestOf fault (leaders_of code found)) (scan_count found),
+      count_kept found (greatest_of fault (leaders_of code found)) (scan_count found),
       scan_within length_of code (length code) 0,
     )
 
 -- ---- the walk
 
 module _ {A : Type 0} (marks : Marks A) (rows : ℕ → Row) (lookup : Lookup) (code : List ℕ) (fault : ℕ) where
-  end_within : (pc : ℕ) (slots : List A) (count more : ℕ) → blockCount (ended marks rows lookup code fault pc slots count) ≤ count + more
+  end_within : (pc : ℕ) (slots : List A) (count more : ℕ) → block_count (ended marks rows lookup code fault pc slots count) ≤ count + more
   end_within pc slots count more =
-      chosen (λ (w : Walked A). blockCount w ≤ count + more) (eqb pc fault) (done slots count) (failed count pc overshot)
+      chosen (λ (w : Walked A). block_count w ≤ count + more) (eqb pc fault) (done slots count) (failed count pc overshot)
       (omega arith) (omega arith)
 
   after_within :
       (o : Outcome A) (pc count turns : ℕ) (following : ℕ → List A → Walked A) →
-      ((next : ℕ) (slots : List A) → blockCount (following next slots) ≤ count + 1 + turns) →
-      blockCount (after marks rows lookup code fault o pc count following) ≤ count + suc turns
+      ((next : ℕ) (slots : List A) → block_count (following next slots) ≤ count + 1 + turns) →
+      block_count (after marks rows lookup code fault o pc count following) ≤ count + suc turns
   after_within (stops reason) pc count turns following rest = omega arith
   after_within (goes next slots) pc count turns following rest = omega (arith, rest next slots)
   after_within (passes slots) pc count turns following rest = omega arith
 
   walk_within :
       (turns pc : ℕ) (slots : List A) (count : ℕ) →
-      blockCount (walk_from marks rows lookup code fault turns pc slots count) ≤ count + turns
+      block_count (walk_from marks rows lookup code fault turns pc slots count) ≤ count + turns
   unfolding walk_from
   walk_within zero pc slots count = end_within pc slots count 0
   walk_within (suc turns) pc slots count =
-      chosen (λ (w : Walked A). blockCount w ≤ count + suc turns) (ltb pc fault) _ _
+      chosen (λ (w : Walked A). block_count w ≤ count + suc turns) (ltb pc fault) _ _
       (after_within (step marks rows lookup code fault pc slots) pc count turns
       (λ next list. walk_from marks rows lookup code fault turns next list (count + 1))
       (λ next list. walk_within turns next list (count + 1)))
@@ -105,10 +105,10 @@ module _ {A : Type 0} (marks : Marks A) (rows : ℕ → Row) (lookup : Lookup) (
 
 abbrev Within : {A : Type 0} → ℕ → Roomed A → Type 0
 Within limit (lacks index) = Unit {0}
-Within limit (fits walked) = blockCount walked ≤ limit
+Within limit (fits walked) = block_count walked ≤ limit
 
 judged_within :
-    {A : Type 0} (limit room : ℕ) (cs : List Completed) (walked : Walked A) → blockCount walked ≤ limit →
+    {A : Type 0} (limit room : ℕ) (cs : List Completed) (walked : Walked A) → block_count walked ≤ limit →
     Within limit (judged room cs walked)
 judged_within limit room [] walked small = small
 judged_within limit room (c ∷ cs) walked small =
@@ -147,17 +147,17 @@ module _ (manner : Manner) (p : Parts) (laid : LaidOut p) (room : ℕ) where
     where
       by_scan :
           (s : Scan) → count_of s ≤ length p.code →
-          SmallTrace (traced_by manner.model p.code p.members p.memberCount p.fault depth room s)
+          SmallTrace (traced_by manner.model p.code p.members p.member_count p.fault depth room s)
       by_scan (Leader leader scan) few =
           small_trace scan depth p.fault
-          (block_walk_in manner.model p.code p.members p.memberCount leader p.fault room)
+          (block_walk_in manner.model p.code p.members p.member_count leader p.fault room)
           (omega (arith, laid.code)) laid.fault
-          (walked_within manner.model p.code p.members p.memberCount leader p.fault room)
+          (walked_within manner.model p.code p.members p.member_count leader p.fault room)
       by_scan (Unmeasured at scan) few = (omega (arith, laid.code), lit≤ tt)
 
   said_small : SmallSaid (said_in manner p room)
   unfolding said_in
-  said_small = by_fault (decoded p.code p.members p.memberCount p.fault)
+  said_small = by_fault (decoded p.code p.members p.member_count p.fault)
     where
       kind_small : (cause : Slot) → kind_of cause ≤ 2
       kind_small Other = lit≤ tt
@@ -172,19 +172,19 @@ module _ (manner : Manner) (p : Parts) (laid : LaidOut p) (room : ℕ) where
           by_trace (NoRoom index) small = tt
           by_trace (Traced scan block cause) small = (kind_small cause, small.0, small.1)
 
-small_answer : (s : Said) (outRoom : ℕ) → SmallSaid s → Small (answer_by s outRoom)
-small_answer silent outRoom small = tt
-small_answer (roomless index) outRoom small = tt
-small_answer (said message kind scan block) outRoom small =
-    chosen Small (leb (length message) outRoom) (Message (length message) kind scan block) (NoOutput (needed message)) small tt
+small_answer : (s : Said) (out_room : ℕ) → SmallSaid s → Small (answer_by s out_room)
+small_answer silent out_room small = tt
+small_answer (roomless index) out_room small = tt
+small_answer (said message kind scan block) out_room small =
+    chosen Small (leb (length message) out_room) (Message (length message) kind scan block) (NoOutput (needed message)) small tt
 
 pub counts_small : CountsSmall
 unfolding report_in
-counts_small manner bytes are room outRoom = by_case (case_of bytes) refl
+counts_small manner bytes are room out_room = by_case (case_of bytes) refl
   where
-    by_case : (c : Case) → case_of bytes ≡ c → Small (answer_of manner bytes room outRoom c)
+    by_case : (c : Case) → case_of bytes ≡ c → Small (answer_of manner bytes room out_room c)
     by_case (cases.Parts places) e =
-        small_answer (said_in manner (parts_of bytes places) room) outRoom
+        small_answer (said_in manner (parts_of bytes places) room) out_room
         (said_small manner (parts_of bytes places) (accepted_is_laid_out bytes are places e).0 room)
     by_case (cases.Wrong offset) e = tt
     by_case cases.TooLong e = tt

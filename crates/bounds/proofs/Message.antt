@@ -26,16 +26,16 @@ use Rattle.bounds.proofs.Texts.{Within, part_within}
 pub message_short : MessageShort
 unfolding message_of message_text
 message_short p members records wording action cause =
-    let doing = action_text wording p.members p.memberCount action in
-    let reason = cause_text cause p.records p.recordCount p.signature (is_instance p.flags) in
+    let doing = action_text wording p.members p.member_count action in
+    let reason = cause_text cause p.records p.record_count p.signature (is_instance p.flags) in
     let room : much + 3 * longest + 100 ≤ most = lit≤ tt in
     omega (
       arith,
       room,
       records,
       length-append doing reason,
-      action_within wording p.members p.memberCount action members,
-      cause_within cause p.records p.recordCount p.signature (is_instance p.flags),
+      action_within wording p.members p.member_count action members,
+      cause_within cause p.records p.record_count p.signature (is_instance p.flags),
     )
 
 -- a case that is read is no longer than a case can be

@@ -21,4 +21,4 @@ Small NoWording = Unit {0}
 
 abbrev pub CountsSmall : Type 0
 CountsSmall =
-    (manner : Manner) (bytes : List ℕ) → AreBytes bytes → (room outRoom : ℕ) → Small (report_in manner bytes room outRoom)
+    (manner : Manner) (bytes : List ℕ) → AreBytes bytes → (room out_room : ℕ) → Small (report_in manner bytes room out_room)

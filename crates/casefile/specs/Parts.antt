@@ -11,9 +11,9 @@ pub record Parts : Type 0 where
   pub fault : ℕ
   pub code : List ℕ
   pub signature : List ℕ
-  pub memberCount : ℕ
+  pub member_count : ℕ
   pub members : List ℕ
-  pub recordCount : ℕ
+  pub record_count : ℕ
   pub records : List ℕ
 
 -- "A case holds, in order: access flags, faulting index, code text, name signature text, member count, members, record
@@ -21,7 +21,7 @@ pub record Parts : Type 0 where
 unfoldable pub case_bytes : Parts → List ℕ
 case_bytes p =
     number_bytes p.flags ++ (number_bytes p.fault ++ (text_bytes p.code ++ (text_bytes p.signature ++
-    (number_bytes p.memberCount ++ (p.members ++ (number_bytes p.recordCount ++ p.records))))))
+    (number_bytes p.member_count ++ (p.members ++ (number_bytes p.record_count ++ p.records))))))
 
 -- the parts that lie at these places
 unfoldable pub parts_of : List ℕ → Places → Parts
@@ -31,8 +31,8 @@ parts_of bytes places =
       fault = places.fault;
       code = part_at bytes places.code places.code_length;
       signature = part_at bytes places.signature places.signature_length;
-      memberCount = places.member_count;
+      member_count = places.member_count;
       members = part_at bytes places.members places.members_length;
-      recordCount = places.record_count;
+      record_count = places.record_count;
       records = part_at bytes places.records places.records_length;
     }

@@ -15,19 +15,19 @@ use Rattle.casefile.specs.declared.Tables.TheVariants as tables
 -- "member count, members, record count, local records"
 unfoldable pub tables_at : List ℕ → ℕ → Tables
 tables_at bytes at =
-    then_number (number_at greatest bytes at) (tables.Wrong at) (λ memberCount members.
-    then_run (run_by (members_then memberCount 0 ended) bytes members) (λ wrong. tables.Wrong wrong) (λ members_end.
-    then_number (number_at greatest bytes members_end) (tables.Wrong members_end) (λ recordCount records.
-    then_run (run_by (records_then recordCount ended) bytes records) (λ wrong. tables.Wrong wrong) (λ recordsEnd.
+    then_number (number_at greatest bytes at) (tables.Wrong at) (λ member_count members.
+    then_run (run_by (members_then member_count 0 ended) bytes members) (λ wrong. tables.Wrong wrong) (λ members_end.
+    then_number (number_at greatest bytes members_end) (tables.Wrong members_end) (λ record_count records.
+    then_run (run_by (records_then record_count ended) bytes records) (λ wrong. tables.Wrong wrong) (λ records_end.
     tables.Read
     (record {
       members = members;
       members_length = members_end - members;
-      member_count = memberCount;
+      member_count = member_count;
       records = records;
-      records_length = recordsEnd - records;
-      record_count = recordCount;
-      end = recordsEnd;
+      records_length = records_end - records;
+      record_count = record_count;
+      end = records_end;
     })))))
 
 abbrev pub then_tables : {A : Type 0} → Tables → (ℕ → A) → (TablePlaces → A) → A
@@ -40,18 +40,18 @@ unfoldable pub places_in : List ℕ → Case
 places_in bytes =
     then_number (number_at greatest bytes 0) (Wrong 0) (λ flags fault_at.
     then_number (number_at greatest bytes fault_at) (Wrong fault_at) (λ fault code_at.
-    then_text (text_at bytes code_at) (Wrong code_at) (λ code codeLength.
-    then_text (text_at bytes (code + codeLength)) (Wrong (code + codeLength)) (λ signature signatureLength.
-    then_tables (tables_at bytes (signature + signatureLength)) (λ wrong. Wrong wrong) (λ places.
+    then_text (text_at bytes code_at) (Wrong code_at) (λ code code_length.
+    then_text (text_at bytes (code + code_length)) (Wrong (code + code_length)) (λ signature signature_length.
+    then_tables (tables_at bytes (signature + signature_length)) (λ wrong. Wrong wrong) (λ places.
     pick (ltb places.end (length bytes)) (Wrong places.end)
     (Parts
     (record {
       flags = flags;
       fault = fault;
       code = code;
-      code_length = codeLength;
+      code_length = code_length;
       signature = signature;
-      signature_length = signatureLength;
+      signature_length = signature_length;
       members = places.members;
       members_length = places.members_length;
       member_count = places.member_count;

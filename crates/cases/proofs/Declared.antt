@@ -224,20 +224,20 @@ module _ (following : Layout) (bytes : List ℕ) (at : ℕ) where
   tables-then = by_count (number_at greatest bytes at) refl
     where
       by_records :
-          (count members end recordCount records : ℕ) → number_at greatest bytes at ≡ Value count members →
-          run_by (members_then count 0 ended) bytes members ≡ End end → number_at greatest bytes end ≡ Value recordCount records →
-          (r : Run) → run_by (records_then recordCount ended) bytes records ≡ r → TablesThen
-      by_records count members end recordCount records e f g (End last) h =
-          rw (e, members-then count 0 after_members bytes members, f, g, records-then recordCount following bytes records, h)
-      by_records count members end recordCount records e f g (Wrong offset) h =
-          rw (e, members-then count 0 after_members bytes members, f, g, records-then recordCount following bytes records, h)
+          (count members end record_count records : ℕ) → number_at greatest bytes at ≡ Value count members →
+          run_by (members_then count 0 ended) bytes members ≡ End end → number_at greatest bytes end ≡ Value record_count records →
+          (r : Run) → run_by (records_then record_count ended) bytes records ≡ r → TablesThen
+      by_records count members end record_count records e f g (End last) h =
+          rw (e, members-then count 0 after_members bytes members, f, g, records-then record_count following bytes records, h)
+      by_records count members end record_count records e f g (Wrong offset) h =
+          rw (e, members-then count 0 after_members bytes members, f, g, records-then record_count following bytes records, h)
 
       by_record_count :
           (count members end : ℕ) → number_at greatest bytes at ≡ Value count members →
           run_by (members_then count 0 ended) bytes members ≡ End end →
           (n : Number) → number_at greatest bytes end ≡ n → TablesThen
-      by_record_count count members end e f (Value recordCount records) g =
-          by_records count members end recordCount records e f g (run_by (records_then recordCount ended) bytes records) refl
+      by_record_count count members end e f (Value record_count records) g =
+          by_records count members end record_count records e f g (run_by (records_then record_count ended) bytes records) refl
       by_record_count count members end e f NotNumber g = rw (e, members-then count 0 after_members bytes members, f, g)
 
       by_members :
@@ -265,29 +265,29 @@ module _ (bytes : List ℕ) where
       by_end false end right e = e
 
       by_tables :
-          (flags fault_at fault code_at code codeLength signature signatureLength : ℕ) →
+          (flags fault_at fault code_at code code_length signature signature_length : ℕ) →
           number_at greatest bytes 0 ≡ Value flags fault_at → number_at greatest bytes fault_at ≡ Value fault code_at →
-          text_at bytes code_at ≡ Place code codeLength → text_at bytes (code + codeLength) ≡ Place signature signatureLength →
-          (t : Tables) → tables_at bytes (signature + signatureLength) ≡ t → CaseRun
-      by_tables flags fault_at fault code_at code codeLength signature signatureLength e f g h (tables.Read places) i =
-          rw (e, f, g, h, tables-then ended bytes (signature + signatureLength), i)
+          text_at bytes code_at ≡ Place code code_length → text_at bytes (code + code_length) ≡ Place signature signature_length →
+          (t : Tables) → tables_at bytes (signature + signature_length) ≡ t → CaseRun
+      by_tables flags fault_at fault code_at code code_length signature signature_length e f g h (tables.Read places) i =
+          rw (e, f, g, h, tables-then ended bytes (signature + signature_length), i)
           (by_end (ltb places.end (length bytes)) places.end _ refl)
-      by_tables flags fault_at fault code_at code codeLength signature signatureLength e f g h (tables.Wrong offset) i =
-          rw (e, f, g, h, tables-then ended bytes (signature + signatureLength), i)
+      by_tables flags fault_at fault code_at code code_length signature signature_length e f g h (tables.Wrong offset) i =
+          rw (e, f, g, h, tables-then ended bytes (signature + signature_length), i)
 
       by_signature :
-          (flags fault_at fault code_at code codeLength : ℕ) →
+          (flags fault_at fault code_at code code_length : ℕ) →
           number_at greatest bytes 0 ≡ Value flags fault_at → number_at greatest bytes fault_at ≡ Value fault code_at →
-          text_at bytes code_at ≡ Place code codeLength → (t : Text) → text_at bytes (code + codeLength) ≡ t → CaseRun
-      by_signature flags fault_at fault code_at code codeLength e f g (Place signature n) h =
-          by_tables flags fault_at fault code_at code codeLength signature n e f g h (tables_at bytes (signature + n)) refl
-      by_signature flags fault_at fault code_at code codeLength e f g NotText h = rw (e, f, g, h)
+          text_at bytes code_at ≡ Place code code_length → (t : Text) → text_at bytes (code + code_length) ≡ t → CaseRun
+      by_signature flags fault_at fault code_at code code_length e f g (Place signature n) h =
+          by_tables flags fault_at fault code_at code code_length signature n e f g h (tables_at bytes (signature + n)) refl
+      by_signature flags fault_at fault code_at code code_length e f g NotText h = rw (e, f, g, h)
 
       by_code :
           (flags fault_at fault code_at : ℕ) → number_at greatest bytes 0 ≡ Value flags fault_at →
           number_at greatest bytes fault_at ≡ Value fault code_at → (t : Text) → text_at bytes code_at ≡ t → CaseRun
-      by_code flags fault_at fault code_at e f (Place code codeLength) g =
-          by_signature flags fault_at fault code_at code codeLength e f g (text_at bytes (code + codeLength)) refl
+      by_code flags fault_at fault code_at e f (Place code code_length) g =
+          by_signature flags fault_at fault code_at code code_length e f g (text_at bytes (code + code_length)) refl
       by_code flags fault_at fault code_at e f NotText g = rw (e, f, g)
 
       by_fault :

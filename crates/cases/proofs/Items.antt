@@ -246,11 +246,11 @@ module _ (bytes : List ℕ) (are : AreBytes bytes) where
           let class = text_bytes texts.class.t in
           let name = text_bytes texts.name.t in
           let descriptor = text_bytes texts.descriptor.t in
-          let fromKind = number_bytes kind.v ++ (class ++ (name ++ descriptor)) in
-          let ends : class_at + length class + length name + length descriptor ≡ at + length (number_bytes index.v ++ fromKind) =
+          let from_kind = number_bytes kind.v ++ (class ++ (name ++ descriptor)) in
+          let ends : class_at + length class + length name + length descriptor ≡ at + length (number_bytes index.v ++ from_kind) =
           omega (
             arith,
-            length-append (number_bytes index.v) fromKind,
+            length-append (number_bytes index.v) from_kind,
             length-append (number_bytes kind.v) (class ++ (name ++ descriptor)),
             length-append class (name ++ descriptor),
             length-append name descriptor,
@@ -274,7 +274,7 @@ module _ (bytes : List ℕ) (are : AreBytes bytes) where
                   descriptor = texts.descriptor.fits;
                 };
             stands =
-                both_stand bytes at (number_bytes index.v) fromKind index.stands
+                both_stand bytes at (number_bytes index.v) from_kind index.stands
                 (both_stand bytes kind_at (number_bytes kind.v) (class ++ (name ++ descriptor)) kind.stands
                 (both_stand bytes class_at class (name ++ descriptor) texts.class.stands
                 (both_stand bytes (class_at + length class) name descriptor texts.name.stands texts.descriptor.stands)));

@@ -55,48 +55,48 @@ record-run bytes at count run is stands =
 -- the two runs with their counts, from a place on
 module _ (bytes : List ℕ) (at : ℕ) (p : Parts) (right : LaidOut p) where
   abbrev members_at : ℕ
-  members_at = at + length (number_bytes p.memberCount)
+  members_at = at + length (number_bytes p.member_count)
 
   abbrev members_end : ℕ
   members_end = members_at + length p.members
 
   abbrev records_at : ℕ
-  records_at = members_end + length (number_bytes p.recordCount)
+  records_at = members_end + length (number_bytes p.record_count)
 
   abbrev table_bytes : List ℕ
-  table_bytes = number_bytes p.memberCount ++ (p.members ++ (number_bytes p.recordCount ++ p.records))
+  table_bytes = number_bytes p.member_count ++ (p.members ++ (number_bytes p.record_count ++ p.records))
 
   abbrev table_places : TablePlaces
   table_places =
       record {
         members = members_at;
         members_length = members_end - members_at;
-        member_count = p.memberCount;
+        member_count = p.member_count;
         records = records_at;
         records_length = records_at + length p.records - records_at;
-        record_count = p.recordCount;
+        record_count = p.record_count;
         end = records_at + length p.records;
       }
 
-  members_stand : Stands bytes at table_bytes → Stands bytes members_at (p.members ++ (number_bytes p.recordCount ++ p.records))
-  members_stand stands = second_stands bytes at (number_bytes p.memberCount) _ stands
+  members_stand : Stands bytes at table_bytes → Stands bytes members_at (p.members ++ (number_bytes p.record_count ++ p.records))
+  members_stand stands = second_stands bytes at (number_bytes p.member_count) _ stands
 
-  count_stands : Stands bytes at table_bytes → Stands bytes members_end (number_bytes p.recordCount ++ p.records)
+  count_stands : Stands bytes at table_bytes → Stands bytes members_end (number_bytes p.record_count ++ p.records)
   count_stands stands = second_stands bytes members_at p.members _ (members_stand stands)
 
   records_stand : Stands bytes at table_bytes → Stands bytes records_at p.records
-  records_stand stands = second_stands bytes members_end (number_bytes p.recordCount) p.records (count_stands stands)
+  records_stand stands = second_stands bytes members_end (number_bytes p.record_count) p.records (count_stands stands)
 
   tables_read : Stands bytes at table_bytes → tables_at bytes at ≡ tables.Read table_places
   unfolding tables_at
   tables_read stands =
       rw (
-        number_reads greatest bytes at p.memberCount right.memberCount (first_stands bytes at (number_bytes p.memberCount) _ stands),
-        member-run bytes members_at p.memberCount p.members right.members
+        number_reads greatest bytes at p.member_count right.member_count (first_stands bytes at (number_bytes p.member_count) _ stands),
+        member-run bytes members_at p.member_count p.members right.members
             (first_stands bytes members_at p.members _ (members_stand stands)),
-        number_reads greatest bytes members_end p.recordCount right.recordCount
-            (first_stands bytes members_end (number_bytes p.recordCount) p.records (count_stands stands)),
-        record-run bytes records_at p.recordCount p.records right.records (records_stand stands),
+        number_reads greatest bytes members_end p.record_count right.record_count
+            (first_stands bytes members_end (number_bytes p.record_count) p.records (count_stands stands)),
+        record-run bytes records_at p.record_count p.records right.records (records_stand stands),
       )
 
 module _ (p : Parts) (right : LaidOut p) where
@@ -166,9 +166,9 @@ module _ (p : Parts) (right : LaidOut p) where
         length-append (number_bytes p.fault) from_code,
         length-append (text_bytes p.code) from_signature,
         length-append (text_bytes p.signature) from_tables,
-        length-append (number_bytes p.memberCount) (p.members ++ (number_bytes p.recordCount ++ p.records)),
-        length-append p.members (number_bytes p.recordCount ++ p.records),
-        length-append (number_bytes p.recordCount) p.records,
+        length-append (number_bytes p.member_count) (p.members ++ (number_bytes p.record_count ++ p.records)),
+        length-append p.members (number_bytes p.record_count ++ p.records),
+        length-append (number_bytes p.record_count) p.records,
       )
 
   abbrev laid_tables : TablePlaces
@@ -249,17 +249,17 @@ module _ (bytes : List ℕ) (are : AreBytes bytes) where
 
   -- the two runs with their counts, that a run passed
   record TablesBefore (following : Layout) (at end : ℕ) : Type 0 where
-    memberCount : ℕ
+    member_count : ℕ
     members : List ℕ
-    recordCount : ℕ
+    record_count : ℕ
     records : List ℕ
-    member_count_fits : memberCount ≤ greatest
-    record_count_fits : recordCount ≤ greatest
-    member_run : MemberRun memberCount members
-    record_run : RecordRun recordCount records
-    stands : Stands bytes at (number_bytes memberCount ++ (members ++ (number_bytes recordCount ++ records)))
+    member_count_fits : member_count ≤ greatest
+    record_count_fits : record_count ≤ greatest
+    member_run : MemberRun member_count members
+    record_run : RecordRun record_count records
+    stands : Stands bytes at (number_bytes member_count ++ (members ++ (number_bytes record_count ++ records)))
     onward :
-        run_by following bytes (at + length (number_bytes memberCount ++ (members ++ (number_bytes recordCount ++ records)))) ≡ End end
+        run_by following bytes (at + length (number_bytes member_count ++ (members ++ (number_bytes record_count ++ records)))) ≡ End end
 
   tables_back :
       (following : Layout) (at end : ℕ) → run_by (tables_then following) bytes at ≡ End end → TablesBefore following at end
@@ -272,40 +272,40 @@ module _ (bytes : List ℕ) (are : AreBytes bytes) where
       of_records :
           (count : NumberBefore bytes are any (λ n. members_then n 0 after_members) at end)
           (members : MembersBefore bytes are count.v 0 after_members (at + length (number_bytes count.v)) end)
-          (recordCount :
+          (record_count :
           NumberBefore bytes are any (λ n. records_then n following)
           (at + length (number_bytes count.v) + length (members_bytes members.members)) end) →
-          RecordsBefore bytes are recordCount.v following
-          (at + length (number_bytes count.v) + length (members_bytes members.members) + length (number_bytes recordCount.v)) end →
+          RecordsBefore bytes are record_count.v following
+          (at + length (number_bytes count.v) + length (members_bytes members.members) + length (number_bytes record_count.v)) end →
           TablesBefore following at end
-      of_records count members recordCount records =
+      of_records count members record_count records =
           let members_at = at + length (number_bytes count.v) in
           let member_run = members_bytes members.members in
           let record_run = records_bytes records.locals in
-          let fromCount = number_bytes recordCount.v ++ record_run in
+          let from_count = number_bytes record_count.v ++ record_run in
           let ends :
-          members_at + length member_run + length (number_bytes recordCount.v) + length record_run
-          ≡ at + length (number_bytes count.v ++ (member_run ++ fromCount)) =
+          members_at + length member_run + length (number_bytes record_count.v) + length record_run
+          ≡ at + length (number_bytes count.v ++ (member_run ++ from_count)) =
           omega (
             arith,
-            length-append (number_bytes count.v) (member_run ++ fromCount),
-            length-append member_run fromCount,
-            length-append (number_bytes recordCount.v) record_run,
+            length-append (number_bytes count.v) (member_run ++ from_count),
+            length-append member_run from_count,
+            length-append (number_bytes record_count.v) record_run,
           ) in
           record {
-            memberCount = count.v;
+            member_count = count.v;
             members = member_run;
-            recordCount = recordCount.v;
+            record_count = record_count.v;
             records = record_run;
             member_count_fits = count.fits;
-            record_count_fits = recordCount.fits;
+            record_count_fits = record_count.fits;
             member_run = record { members = members.members; right = members.right; counted = members.counted; bytes = refl };
             record_run = record { locals = records.locals; right = records.right; counted = records.counted; bytes = refl };
             stands =
-                both_stand bytes at (number_bytes count.v) (member_run ++ fromCount) count.stands
-                (both_stand bytes members_at member_run fromCount members.stands
-                (both_stand bytes (members_at + length member_run) (number_bytes recordCount.v) record_run
-                recordCount.stands records.stands));
+                both_stand bytes at (number_bytes count.v) (member_run ++ from_count) count.stands
+                (both_stand bytes members_at member_run from_count members.stands
+                (both_stand bytes (members_at + length member_run) (number_bytes record_count.v) record_run
+                record_count.stands records.stands));
             onward = ap (run_by following bytes) (sym ends) ∙ records.onward;
           }
 
@@ -315,11 +315,11 @@ module _ (bytes : List ℕ) (are : AreBytes bytes) where
           NumberBefore bytes are any (λ n. records_then n following)
           (at + length (number_bytes count.v) + length (members_bytes members.members)) end →
           TablesBefore following at end
-      of_record_count count members recordCount =
-          of_records count members recordCount
-          (records_back bytes are recordCount.v following
-          (at + length (number_bytes count.v) + length (members_bytes members.members) + length (number_bytes recordCount.v)) end
-          recordCount.onward)
+      of_record_count count members record_count =
+          of_records count members record_count
+          (records_back bytes are record_count.v following
+          (at + length (number_bytes count.v) + length (members_bytes members.members) + length (number_bytes record_count.v)) end
+          record_count.onward)
 
       of_members :
           (count : NumberBefore bytes are any (λ n. members_then n 0 after_members) at end) →
@@ -344,19 +344,19 @@ module _ (bytes : List ℕ) (are : AreBytes bytes) where
       (0 + length (number_bytes flags) + length (number_bytes fault) + length (text_bytes code) + length (text_bytes signature)) end →
       length bytes ≤ end → length bytes ≤ longest → Laid
   unfolding case_bytes run_by
-  assembled end flags fault code signature flagsFit faultFits codeFits signatureFits a b c d tables whole short =
+  assembled end flags fault code signature flags_fit fault_fits code_fits signature_fits a b c d tables whole short =
       let p : Parts =
       record {
         flags = flags;
         fault = fault;
         code = code;
         signature = signature;
-        memberCount = tables.memberCount;
+        member_count = tables.member_count;
         members = tables.members;
-        recordCount = tables.recordCount;
+        record_count = tables.record_count;
         records = tables.records;
       } in
-      let from_tables = number_bytes p.memberCount ++ (p.members ++ (number_bytes p.recordCount ++ p.records)) in
+      let from_tables = number_bytes p.member_count ++ (p.members ++ (number_bytes p.record_count ++ p.records)) in
       let from_signature = text_bytes signature ++ from_tables in
       let from_code = text_bytes code ++ from_signature in
       let from_fault = number_bytes fault ++ from_code in
@@ -380,13 +380,13 @@ module _ (bytes : List ℕ) (are : AreBytes bytes) where
         parts = p;
         right =
             record {
-              flags = flagsFit;
-              fault = faultFits;
-              code = codeFits;
-              signature = signatureFits;
-              memberCount = tables.member_count_fits;
+              flags = flags_fit;
+              fault = fault_fits;
+              code = code_fits;
+              signature = signature_fits;
+              member_count = tables.member_count_fits;
               members = tables.member_run;
-              recordCount = tables.record_count_fits;
+              record_count = tables.record_count_fits;
               records = tables.record_run;
               short = omega (arith, ap (length {A = ℕ}) same);
             };

@@ -95,10 +95,10 @@ pub record LaidOut (p : Parts) : Type 0 where
   pub fault : p.fault ≤ greatest
   pub code : length p.code ≤ greatest
   pub signature : length p.signature ≤ greatest
-  pub memberCount : p.memberCount ≤ greatest
-  pub members : MemberRun p.memberCount p.members
-  pub recordCount : p.recordCount ≤ greatest
-  pub records : RecordRun p.recordCount p.records
+  pub member_count : p.member_count ≤ greatest
+  pub members : MemberRun p.member_count p.members
+  pub record_count : p.record_count ≤ greatest
+  pub records : RecordRun p.record_count p.records
   pub short : length (case_bytes p) ≤ longest
 
 -- ---- the statements

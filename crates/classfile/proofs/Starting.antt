@@ -19,40 +19,40 @@ use Rattle.classfile.specs.Class.{start_table}
 
 -- ---- the items
 
-module _ (file : List ℕ) {magic minorAt : ℕ} (first : item_at 4 (length file) file 0 ≡ Value magic minorAt) where
+module _ (file : List ℕ) {magic minor_at : ℕ} (first : item_at 4 (length file) file 0 ≡ Value magic minor_at) where
   pub magic_is : u32_at file 0 ≡ magic
   magic_is = sym (four_bytes file 0) ∙ (item_is 4 (length file) file 0 first).1
 
-  minor_at : minorAt ≡ 4
+  minor_at : minor_at ≡ 4
   minor_at = sym (item_is 4 (length file) file 0 first).2
 
-  pub minor_short : item_at 2 (length file) file minorAt ≡ Cut → length file < 10
-  minor_short cut = omega (arith, minor_at, item_cut 2 (length file) file minorAt cut)
+  pub minor_short : item_at 2 (length file) file minor_at ≡ Cut → length file < 10
+  minor_short cut = omega (arith, minor_at, item_cut 2 (length file) file minor_at cut)
 
-  module _ {minor majorAt : ℕ} (second : item_at 2 (length file) file minorAt ≡ Value minor majorAt) where
-    major_at : majorAt ≡ 6
-    major_at = omega (arith, minor_at, (item_is 2 (length file) file minorAt second).2)
+  module _ {minor major_at : ℕ} (second : item_at 2 (length file) file minor_at ≡ Value minor major_at) where
+    major_at : major_at ≡ 6
+    major_at = omega (arith, minor_at, (item_is 2 (length file) file minor_at second).2)
 
-    pub major_short : item_at 2 (length file) file majorAt ≡ Cut → length file < 10
-    major_short cut = omega (arith, major_at, item_cut 2 (length file) file majorAt cut)
+    pub major_short : item_at 2 (length file) file major_at ≡ Cut → length file < 10
+    major_short cut = omega (arith, major_at, item_cut 2 (length file) file major_at cut)
 
-    module _ {major countAt : ℕ} (third : item_at 2 (length file) file majorAt ≡ Value major countAt) where
-      count_at : countAt ≡ 8
-      count_at = omega (arith, major_at, (item_is 2 (length file) file majorAt third).2)
+    module _ {major count_at : ℕ} (third : item_at 2 (length file) file major_at ≡ Value major count_at) where
+      count_at : count_at ≡ 8
+      count_at = omega (arith, major_at, (item_is 2 (length file) file major_at third).2)
 
-      pub count_short : item_at 2 (length file) file countAt ≡ Cut → length file < 10
-      count_short cut = omega (arith, count_at, item_cut 2 (length file) file countAt cut)
+      pub count_short : item_at 2 (length file) file count_at ≡ Cut → length file < 10
+      count_short cut = omega (arith, count_at, item_cut 2 (length file) file count_at cut)
 
-      module _ {count from : ℕ} (fourth : item_at 2 (length file) file countAt ≡ Value count from) where
+      module _ {count from : ℕ} (fourth : item_at 2 (length file) file count_at ≡ Value count from) where
         pub pool_at : from ≡ 10
-        pool_at = omega (arith, count_at, (item_is 2 (length file) file countAt fourth).2)
+        pool_at = omega (arith, count_at, (item_is 2 (length file) file count_at fourth).2)
 
         pub long : 10 ≤ length file
-        long = omega (arith, count_at, (item_is 2 (length file) file countAt fourth).0)
+        long = omega (arith, count_at, (item_is 2 (length file) file count_at fourth).0)
 
         pub count_is : u16_at file 8 ≡ count
         count_is =
-            sym (two_bytes file 8) ∙ ap (λ (place : ℕ). number_at 2 file place) (sym count_at) ∙ (item_is 2 (length file) file countAt fourth).1
+            sym (two_bytes file 8) ∙ ap (λ (place : ℕ). number_at 2 file place) (sym count_at) ∙ (item_is 2 (length file) file count_at fourth).1
 
 -- ---- the table
 

@@ -134,7 +134,7 @@ module _ (names : ℕ → Name) where
   -- 4.7.3, behind the attribute's length: "A code length of 0 or above 65,535 is 6."
   unfoldable pub code_format : ℕ → Format Code
   code_format limit =
-      u2 limit any (λ maxStack. u2 limit any (λ maxLocals.
+      u2 limit any (λ max_stack. u2 limit any (λ max_locals.
       text 4 limit (λ size bytes. between 1 65535 size) (λ start size.
       and_then (code_tables_format limit) (λ tables. done (record { start = start; size = size; stop = limit; tables = tables })))))
 

@@ -32,7 +32,7 @@ use Rattle.fault.specs.declared.Fault.{Fault}
 use Rattle.fault.specs.declared.Fault.TheVariants.{Failed, Nothing}
 use Rattle.locals.specs.Name.{is_instance}
 use Rattle.message.specs.Message.{message_text}
-use Rattle.trace.specs.Trace.{tracedFor}
+use Rattle.trace.specs.Trace.{traced_for}
 use Rattle.trace.specs.declared.Trace.{Trace}
 use Rattle.trace.specs.declared.Trace.TheVariants.{NoRoom, Traced}
 use Rattle.answer.specs.Answer.{kind_of, Said, said, Delivered}
@@ -132,18 +132,18 @@ module _ (file table : List ℕ) (m : MethodPlace) (code : CodePlace) (fault : �
     failed_so = subst (λ (b : List ℕ). decoded_in file table b fault ≡ Failed action depth) are failed
 
     traced_so :
-        (t : Trace) → tracedFor manner.model (pool_lookup file table) bytes fault depth room ≡ t →
-        tracedFor manner.model (pool_lookup file table) whole fault depth room ≡ t
-    traced_so t e = subst (λ (b : List ℕ). tracedFor manner.model (pool_lookup file table) b fault depth room ≡ t) are e
+        (t : Trace) → traced_for manner.model (pool_lookup file table) bytes fault depth room ≡ t →
+        traced_for manner.model (pool_lookup file table) whole fault depth room ≡ t
+    traced_so t e = subst (λ (b : List ℕ). traced_for manner.model (pool_lookup file table) b fault depth room ≡ t) are e
 
     pub is_roomless :
-        (index : ℕ) → tracedFor manner.model (pool_lookup file table) bytes fault depth room ≡ NoRoom index → Reports (report.NoRoom index) out
+        (index : ℕ) → traced_for manner.model (pool_lookup file table) bytes fault depth room ≡ NoRoom index → Reports (report.NoRoom index) out
     unfolding method_said class_said
     is_roomless index t =
         let so = traced_so (NoRoom index) t in
         record { answers = rw (failed_so, so); leaves = rw (failed_so, so) }
 
-    module _ (scan block : ℕ) (cause : Slot) (traced : tracedFor manner.model (pool_lookup file table) bytes fault depth room ≡ Traced scan block cause) where
+    module _ (scan block : ℕ) (cause : Slot) (traced : traced_for manner.model (pool_lookup file table) bytes fault depth room ≡ Traced scan block cause) where
       -- the message by its texts
       abbrev texts_of : ℕ → LocalFound → ℕ → Texts
       texts_of cited found slot = record { cited = cited; found = found; slot = slot; name = m.name; descriptor = m.descriptor }

@@ -81,9 +81,9 @@ sample_case =
       fault = 1;
       code = 0x2a ∷ 0xbe ∷ [];
       signature = ascii "m:()V";
-      memberCount = 1;
+      member_count = 1;
       members = 6 ∷ 1 ∷ (1 ∷ ascii "S" ++ (1 ∷ ascii "m" ++ (3 ∷ ascii "()V")));
-      recordCount = 1;
+      record_count = 1;
       records = 1 ∷ 2 ∷ 3 ∷ 2 ∷ (ascii "s" ++ (0 ∷ []));
     }
 
@@ -93,7 +93,7 @@ sample_parts = refl
 
 sample_is_small : SmallEnough sample_case
 unfolding case_bytes text_bytes number_bytes groups_of
-sample_is_small = record { fault = lit≤ tt; signature = lit≤ tt; recordCount = lit≤ tt; short = lit≤ tt }
+sample_is_small = record { fault = lit≤ tt; signature = lit≤ tt; record_count = lit≤ tt; short = lit≤ tt }
 
 pub sample_fits : LaidOut sample_case
 sample_fits =

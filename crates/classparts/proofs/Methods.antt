@@ -64,7 +64,7 @@ fits_a_case file c is m code has fault small =
       fault = small.fault;
       code = omega (arith, length-take code.size (drop code.start file), so.few);
       signature = small.signature;
-      memberCount = omega (arith, few_members file c.pool, pool.few);
+      member_count = omega (arith, few_members file c.pool, pool.few);
       members =
           record {
             members = members_of file c.pool;
@@ -72,7 +72,7 @@ fits_a_case file c is m code has fault small =
             counted = refl;
             bytes = refl;
           };
-      recordCount = small.recordCount;
+      record_count = small.record_count;
       records =
           record {
             locals = locals_of file (entry_in c.pool) code.tables.locals;

@@ -60,8 +60,8 @@ parts_of file c m code fault =
       fault = fault;
       code = bytes_at file code.start code.size;
       signature = signature_of (text_by file entry m.name) (text_by file entry m.descriptor);
-      memberCount = length members;
+      member_count = length members;
       members = laid.members_bytes members;
-      recordCount = length locals;
+      record_count = length locals;
       records = laid.records_bytes locals;
     }

@@ -117,7 +117,7 @@ pub record ServedAlike : Type 0 where
 pub record SmallEnough (p : Parts) : Type 0 where
   pub fault : p.fault ≤ greatest
   pub signature : length p.signature ≤ greatest
-  pub recordCount : p.recordCount ≤ greatest
+  pub record_count : p.record_count ≤ greatest
   pub short : length (case_bytes p) ≤ longest
 
 -- a case can hold the parts of a method where they are small enough

@@ -29,7 +29,7 @@ use Rattle.message.specs.Message.{cause_text, message_text}
 use Rattle.single.specs.Single.{only, cited, covering}
 use Rattle.single.proofs.Member.{one_is_enough}
 use Rattle.single.proofs.Record.{one_names}
-use Rattle.trace.specs.Trace.{tracedFor, traced}
+use Rattle.trace.specs.Trace.{traced_for, traced}
 use Rattle.trace.specs.declared.Trace.{Trace}
 use Rattle.trace.specs.declared.Trace.TheVariants as trace
 use Rattle.answer.specs.Answer.{kind_of, Said, silent, roomless, said}

@@ -18,7 +18,7 @@ use Rattle.fault.specs.declared.Fault.TheVariants.{Failed, Nothing}
 use Rattle.locals.specs.Name.{is_instance}
 use Rattle.message.specs.Message.{message_text}
 use Rattle.single.specs.Single.{covering}
-use Rattle.trace.specs.Trace.{tracedFor}
+use Rattle.trace.specs.Trace.{traced_for}
 use Rattle.trace.specs.declared.Trace.{Trace}
 use Rattle.trace.specs.declared.Trace.TheVariants as trace
 use Rattle.answer.specs.Answer.{kind_of, Said, silent, roomless, said}
@@ -56,7 +56,7 @@ module _ (file table : List ℕ) (m : Method) (code : Code) (fault : ℕ) where
 
     abbrev pub said_decoded : Fault → Said
     said_decoded Nothing = silent
-    said_decoded (Failed action depth) = said_traced action (tracedFor manner.model (pool_lookup file table) code_bytes fault depth room)
+    said_decoded (Failed action depth) = said_traced action (traced_for manner.model (pool_lookup file table) code_bytes fault depth room)
 
     unfoldable pub class_said : Said
     class_said = said_decoded (decoded code_bytes (laid.members_bytes cited_member) (length cited_member) fault)

@@ -34,7 +34,7 @@ use Rattle.entries.specs.declared.Resolved.{Resolved}
 use Rattle.entries.specs.declared.Resolved.TheVariants.{Member, Missing}
 use Rattle.entries.proofs.Resolving.{whole}
 use Rattle.effects.specs.Lookup.{Known, missing, known, Lookup, known_by, lookup_in}
-use Rattle.effects.specs.Rows.{Row, unmodelled, opaque, aload, aloadFar, aload_of, carries, keeps, gets, calls, puts, makes}
+use Rattle.effects.specs.Rows.{Row, unmodelled, opaque, aload, aload_far, aload_of, carries, keeps, gets, calls, puts, makes}
 use Rattle.members.specs.Members.{known_as, pool_lookup}
 use Rattle.walk.specs.Walk.{Effect, fails, cut, getting, putting, called, calling, effect_by}
 use Rattle.single.proofs.Member.{one_is_enough}
@@ -157,7 +157,7 @@ pub same_effects :
 same_effects file table c is serves code pc unmodelled = refl
 same_effects file table c is serves code pc (opaque takes gives) = refl
 same_effects file table c is serves code pc aload = refl
-same_effects file table c is serves code pc aloadFar = refl
+same_effects file table c is serves code pc aload_far = refl
 same_effects file table c is serves code pc (aload_of local) = refl
 same_effects file table c is serves code pc (carries takes places) = refl
 same_effects file table c is serves code pc keeps = refl

@@ -16,8 +16,8 @@ use Rattle.leader.specs.declared.Scan.TheVariants.{Leader, Unmeasured}
 use Rattle.effects.specs.Lookup.{Lookup}
 use Rattle.effects.specs.Rows.{Row, rows_of}
 use Rattle.walk.specs.Walk.{Marks, cells, Effect, applied, Outcome, stops, goes, passes, landed, past_end, Walked, step, ended, after, walk_from, walk, effect_by}
-use Rattle.walk.specs.Room.{Completed, Roomed, completing, completed_from, completed, judged, blockWalkFor}
-use Rattle.trace.specs.Trace.{trace_of, tracedOver, tracedFor, TracedInRun}
+use Rattle.walk.specs.Room.{Completed, Roomed, completing, completed_from, completed, judged, block_walk_for}
+use Rattle.trace.specs.Trace.{trace_of, traced_over, traced_for, TracedInRun}
 use Rattle.trace.specs.declared.Trace.{Trace}
 use Rattle.trace.proofs.Tracing.{traced-in-run}
 use Rattle.cases.specs.LaidOut.{members_bytes}
@@ -75,7 +75,7 @@ module _ {A : Type 0} (marks : Marks A) (rows : ℕ → Row) (one other : Lookup
 
 block_same :
     (rows : ℕ → Row) (one other : Lookup) → SameEffects one other → (code : List ℕ) (leader fault room : ℕ) →
-    blockWalkFor rows one code leader fault room ≡ blockWalkFor rows other code leader fault room
+    block_walk_for rows one code leader fault room ≡ block_walk_for rows other code leader fault room
 unfolding walk completed
 block_same rows one other same code leader fault room =
     ap₂ (λ (cs : List Completed) (w : Walked ℕ). judged room cs w) (completed_same cells rows one other code fault same (fault - leader) leader [])
@@ -83,20 +83,20 @@ block_same rows one other same code leader fault room =
 
 trace_same :
     (depth : ℕ) (one other : ℕ → Roomed ℕ) → ((leader : ℕ) → one leader ≡ other leader) → (scan : Scan) →
-    tracedOver depth one scan ≡ tracedOver depth other scan
+    traced_over depth one scan ≡ traced_over depth other scan
 trace_same depth one other same (Leader leader scan) = ap (λ (w : Roomed ℕ). trace_of scan depth w) (same leader)
 trace_same depth one other same (Unmeasured at scan) = refl
 
 pub class_walk : ClassWalk
-unfolding tracedFor
+unfolding traced_for
 class_walk =
     record {
       effects = same_effects;
       walks = λ file table c is serves rows code leader fault room.
           block_same rows (pool_lookup file table) (case_lookup file c) (same_effects file table c is serves) code leader fault room;
       traces = λ file table c is serves model code fault depth room.
-          trace_same depth (λ leader. blockWalkFor (rows_of model) (pool_lookup file table) code leader fault room)
-          (λ leader. blockWalkFor (rows_of model) (case_lookup file c) code leader fault room)
+          trace_same depth (λ leader. block_walk_for (rows_of model) (pool_lookup file table) code leader fault room)
+          (λ leader. block_walk_for (rows_of model) (case_lookup file c) code leader fault room)
           (λ leader. block_same (rows_of model) (pool_lookup file table) (case_lookup file c) (same_effects file table c is serves) code leader fault room)
           (block_leader length_of [] code fault)
           ∙ traced-in-run model code (members_bytes (members_of file c.pool)) (length (members_of file c.pool)) fault depth room;

@@ -10,8 +10,8 @@ use Rattle.effects.specs.Rows.{Row}
 use Rattle.effects.specs.declared.Model.{Model}
 use Rattle.members.specs.Members.{pool_lookup}
 use Rattle.walk.specs.Walk.{effect_by}
-use Rattle.walk.specs.Room.{blockWalkFor}
-use Rattle.trace.specs.Trace.{tracedFor, traced}
+use Rattle.walk.specs.Room.{block_walk_for}
+use Rattle.trace.specs.Trace.{traced_for, traced}
 use Rattle.classparts.specs.Parts.{members_of}
 use Rattle.classparts.specs.Right.{IsClass}
 
@@ -29,9 +29,9 @@ pub record ClassWalk : Type 0 where
   pub walks :
       (file table : List ℕ) (c : ClassFile) → IsClass file c → Serves file table c.pool →
       (rows : ℕ → Row) (code : List ℕ) (leader fault room : ℕ) →
-      blockWalkFor rows (pool_lookup file table) code leader fault room ≡ blockWalkFor rows (case_lookup file c) code leader fault room
+      block_walk_for rows (pool_lookup file table) code leader fault room ≡ block_walk_for rows (case_lookup file c) code leader fault room
   pub traces :
       (file table : List ℕ) (c : ClassFile) → IsClass file c → Serves file table c.pool →
       (model : Model) (code : List ℕ) (fault depth room : ℕ) →
-      tracedFor model (pool_lookup file table) code fault depth room
+      traced_for model (pool_lookup file table) code fault depth room
       ≡ traced model code (members_bytes (members_of file c.pool)) (length (members_of file c.pool)) fault depth room

@@ -24,7 +24,7 @@ use Rattle.fieldtype.specs.declared.Taken.TheVariants.{Field}
 use Rattle.jvms.specs.Descriptor.{BaseType, byte, char, double, float, int, long, short, boolean, letter}
 use Rattle.jvms.specs.Descriptor.{base, class, array, render, render_all, render_return, render_method, dimensions, NoSemicolon, Named, AllWellFormed}
 use Rattle.jvms.specs.Descriptor.{ReturnType, void, typed, MethodType, WellFormedMethod, slots, slots_all}
-use Rattle.jvms.specs.Descriptor.{FieldType as Tree, return_slots as treeReturnSlots}
+use Rattle.jvms.specs.Descriptor.{FieldType as Tree, return_slots as tree_return_slots}
 use Rattle.jvms.proofs.Rendering.{not_closing, spelled}
 use Rattle.descriptor.proofs.Listing.{list_closed, list_one}
 use Rattle.descriptor.proofs.Return.{behind_end}
@@ -303,7 +303,7 @@ module _ {text : List ℕ} where
 -- ---- the return, and a field
 
 -- the byte behind the parenthesis tells the slots
-return_first : (r : ReturnType) → (x : ℕ) × (l : List ℕ) × (render_return r ≡ x ∷ l) × (byte_slots x ≡ treeReturnSlots r)
+return_first : (r : ReturnType) → (x : ℕ) × (l : List ℕ) × (render_return r ≡ x ∷ l) × (byte_slots x ≡ tree_return_slots r)
 unfolding render_return render
 return_first void = (86, [], refl, refl)
 return_first (typed (base byte)) = (66, [], refl, refl)
@@ -337,7 +337,7 @@ slots_agree m well =
     listed_read types (slots_of (types_of (render_method m)))
     ∙ ap (λ (n : ℕ). Read n (closing_at m)) (listed_slots types ∙ trees_slots m.parameters)
 
-behind_parameters : (m : MethodType) → slots_behind (render_method m) (At (closing_at m)) ≡ SlotsOf (treeReturnSlots m.result)
+behind_parameters : (m : MethodType) → slots_behind (render_method m) (At (closing_at m)) ≡ SlotsOf (tree_return_slots m.result)
 unfolding render_method
 behind_parameters m =
     let q : List ℕ = 40 ∷ render_all m.parameters in
@@ -345,7 +345,7 @@ behind_parameters m =
     let long : closing_at m ≡ length q = omega arith in
     rw (first.2, long) (behind_closing q first.1 first.0 ∙ ap SlotsOf first.3)
 
-return_agrees : (m : MethodType) → WellFormedMethod m → return_slots (render_method m) ≡ SlotsOf (treeReturnSlots m.result)
+return_agrees : (m : MethodType) → WellFormedMethod m → return_slots (render_method m) ≡ SlotsOf (tree_return_slots m.result)
 return_agrees m well =
     behind_end (render_method m) (slots_all m.parameters) (closing_at m) (slots_agree m well) ∙ behind_parameters m
 

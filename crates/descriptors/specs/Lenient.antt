@@ -9,7 +9,7 @@ use Rattle.descriptor.specs.declared.Params.TheVariants.{Read}
 use Rattle.descriptor.specs.declared.Slots.TheVariants.{Slots as SlotsOf}
 use Rattle.jvms.specs.Descriptor.{letter, base, class, array, MethodType, render, render_all, render_method, dimensions}
 use Rattle.jvms.specs.Descriptor.{WellFormed, WellFormedMethod, slots, slots_all}
-use Rattle.jvms.specs.Descriptor.{FieldType as Tree, return_slots as treeReturnSlots}
+use Rattle.jvms.specs.Descriptor.{FieldType as Tree, return_slots as tree_return_slots}
 
 -- what a type says: the letter of its element, its dimensions, and the bytes of its class name
 pub record Told : Type 0 where
@@ -57,5 +57,5 @@ pub record LenientAgrees : Type 0 where
       (m : MethodType) → WellFormedMethod m →
       Listed (render_method m) (types_of (render_method m)) (trees_told m.parameters) (closing_at m)
   pub same_slots : (m : MethodType) → WellFormedMethod m → parameters (render_method m) ≡ Read (slots_all m.parameters) (closing_at m)
-  pub same_return : (m : MethodType) → WellFormedMethod m → return_slots (render_method m) ≡ SlotsOf (treeReturnSlots m.result)
+  pub same_return : (m : MethodType) → WellFormedMethod m → return_slots (render_method m) ≡ SlotsOf (tree_return_slots m.result)
   pub same_field : (t : Tree) → WellFormed t → field_slots (render t) ≡ slots t

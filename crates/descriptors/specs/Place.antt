@@ -12,7 +12,7 @@ use Rattle.fieldtype.specs.Search.{first_from}
 use Rattle.fieldtype.specs.declared.Found.{Found}
 use Rattle.fieldtype.specs.declared.Found.TheVariants.{At, Absent}
 use Rattle.jvms.specs.Descriptor.{MethodType, render_method, WellFormedMethod}
-use Rattle.jvms.specs.Descriptor.{return_slots as treeReturnSlots}
+use Rattle.jvms.specs.Descriptor.{return_slots as tree_return_slots}
 
 -- ---- rules for the place
 
@@ -39,7 +39,7 @@ last_place text = last_in 41 text 0
 abbrev pub Returns : (List ℕ → Found) → Type 0
 Returns place =
     (m : MethodType) → WellFormedMethod m →
-    slots_behind (render_method m) (place (render_method m)) ≡ SlotsOf (treeReturnSlots m.result)
+    slots_behind (render_method m) (place (render_method m)) ≡ SlotsOf (tree_return_slots m.result)
 
 -- how often a byte occurs
 abbrev pub occurs : ℕ → List ℕ → ℕ

@@ -11,7 +11,7 @@ use Rattle.basics.proofs.Every.{both_first, both_second}
 use Rattle.jvms.specs.Machine.{run, results}
 use Rattle.jvms.specs.Stack.{Form, Cited, slots_in}
 use Rattle.effects.specs.Agreement.{taken_by, given_by, Pushed, FormAgrees}
-use Rattle.effects.specs.Rows.{Row, unmodelled, opaque, aload, aloadFar, aload_of, carries, keeps, gets, calls, puts, makes}
+use Rattle.effects.specs.Rows.{Row, unmodelled, opaque, aload, aload_far, aload_of, carries, keeps, gets, calls, puts, makes}
 use Rattle.effects.proofs.Results.{none_borne, own_results, places_are, carried_results}
 use Rattle.effects.proofs.Weights.{operands_linear, taken_linear, given_linear, alike_for_five, alike_for_all}
 
@@ -19,7 +19,7 @@ abbrev pushes_fit : Row → Form → Bool
 pushes_fit unmodelled form = none_borne form.before form.after
 pushes_fit (opaque taken given) form = none_borne form.before form.after
 pushes_fit aload form = none_borne form.before form.after
-pushes_fit aloadFar form = none_borne form.before form.after
+pushes_fit aload_far form = none_borne form.before form.after
 pushes_fit (aload_of local) form = none_borne form.before form.after
 pushes_fit (carries taken places) form = places_are form.before form.after taken places
 pushes_fit keeps form = none_borne form.before form.after
@@ -50,7 +50,7 @@ module _ (form : Form) {Val : Type 0} (cited : Cited) (operands : List Val) (own
   pushes_agree unmodelled t e size = own_pushed 0 t e
   pushes_agree (opaque taken given) t e size = own_pushed given t e
   pushes_agree aload t e size = own_pushed 1 t e
-  pushes_agree aloadFar t e size = own_pushed 1 t e
+  pushes_agree aload_far t e size = own_pushed 1 t e
   pushes_agree (aload_of local) t e size = own_pushed 1 t e
   pushes_agree (carries taken places) t e size =
       carried_results cited form.before form.after operands own places

@@ -15,14 +15,14 @@ use Rattle.basics.proofs.Choice.{chosen}
 use Rattle.basics.proofs.Every.{both_first, both_second, alike_is, every, every_at}
 use Rattle.jvms.specs.Extent.{takes, wide_extent, extent_by, extent_at}
 use Rattle.jvms.specs.Format.{Format, tableswitch, lookupswitch, wide, reserved, format_of}
-use Rattle.jvms.specs.Format.{fixed as fixedFormat}
+use Rattle.jvms.specs.Format.{fixed as fixed_format}
 use Rattle.jvms.specs.Stack.{objectref, reference, Form, ◌⇒◌, Local, indexed, far, numbered, does, entry_of, key_at, key_count}
 use Rattle.jvms.proofs.Keys.{Keyed, plain, behind_wide, keyed, key_plain, key_below}
 use Rattle.jvms.proofs.Sizes.{reaches, far_extent}
 use Rattle.fixed.specs.Fixed.{fixed_by, fixed_length, wide_by, key_length, size_at}
 use Rattle.effects.specs.Agreement.{is_modelled, has_effect, within, FormAgrees, forms_of, has_form, local_of, Details, EffectAgrees}
 use Rattle.effects.specs.Agreement.{Agreeing, ModelAgrees, Sized, ModelSized, documented, ModelsDocumented, added, widens, ModelsAdded, is_load, ModelsMark, ByOpcode}
-use Rattle.effects.specs.Rows.{Row, unmodelled, opaque, aload, aloadFar, aload_of, carries, keeps, gets, calls, puts, makes, or_row, row_of, added_row, widened_row, wide_row, full_row_of}
+use Rattle.effects.specs.Rows.{Row, unmodelled, opaque, aload, aload_far, aload_of, carries, keeps, gets, calls, puts, makes, or_row, row_of, added_row, widened_row, wide_row, full_row_of}
 use Rattle.effects.specs.declared.Model.TheVariants.{Document, Full}
 use Rattle.effects.proofs.Forms.{form_fits, form_agrees}
 
@@ -89,7 +89,7 @@ abbrev details_fit : Row → ℕ → Bool
 details_fit unmodelled op = true
 details_fit (opaque taken given) op = true
 details_fit aload op = is_indexed (local_of (entry_of op))
-details_fit aloadFar op = is_far (local_of (entry_of op))
+details_fit aload_far op = is_far (local_of (entry_of op))
 details_fit (aload_of local) op = is_numbered local (local_of (entry_of op))
 details_fit (carries taken places) op = within taken places
 details_fit keeps op = true
@@ -102,7 +102,7 @@ details_agree : (row : Row) (op : ℕ) → T (details_fit row op) → Details ro
 details_agree unmodelled op t = tt
 details_agree (opaque taken given) op t = tt
 details_agree aload op t = indexed_is (local_of (entry_of op)) t
-details_agree aloadFar op t = far_is (local_of (entry_of op)) t
+details_agree aload_far op t = far_is (local_of (entry_of op)) t
 details_agree (aload_of local) op t = numbered_is local (local_of (entry_of op)) t
 details_agree (carries taken places) op t = t
 details_agree keeps op t = tt
@@ -132,7 +132,7 @@ abbrev keeps_fits : Row → ℕ → Bool
 keeps_fits unmodelled op = true
 keeps_fits (opaque taken given) op = true
 keeps_fits aload op = true
-keeps_fits aloadFar op = true
+keeps_fits aload_far op = true
 keeps_fits (aload_of local) op = true
 keeps_fits (carries taken places) op = true
 keeps_fits keeps op = eqb op 192
@@ -146,21 +146,21 @@ unfolding entry_of
 checkcast_is op e = rw e
 
 abbrev is_fixed : Format → Bool
-is_fixed (fixedFormat os) = true
+is_fixed (fixed_format os) = true
 is_fixed tableswitch = false
 is_fixed lookupswitch = false
 is_fixed wide = false
 is_fixed reserved = false
 
 fixed_extent : (f : Format) → T (is_fixed f) → (code : List ℕ) (pc : ℕ) → extent_by f code pc ≡ takes (fixed_by f)
-fixed_extent (fixedFormat os) t code pc = refl
+fixed_extent (fixed_format os) t code pc = refl
 fixed_extent tableswitch t code pc = absurd t
 fixed_extent lookupswitch t code pc = absurd t
 fixed_extent wide t code pc = absurd t
 fixed_extent reserved t code pc = absurd t
 
 fixed_some : (f : Format) → T (is_fixed f) → 0 < fixed_by f
-fixed_some (fixedFormat os) t = omega arith
+fixed_some (fixed_format os) t = omega arith
 fixed_some tableswitch t = absurd t
 fixed_some lookupswitch t = absurd t
 fixed_some wide t = absurd t
@@ -263,7 +263,7 @@ or_kept : (row other : Row) → T (is_modelled row) → or_row row other ≡ row
 or_kept unmodelled other t = absurd t
 or_kept (opaque taken given) other t = refl
 or_kept aload other t = refl
-or_kept aloadFar other t = refl
+or_kept aload_far other t = refl
 or_kept (aload_of local) other t = refl
 or_kept (carries taken places) other t = refl
 or_kept keeps other t = refl
@@ -280,7 +280,7 @@ effect_modelled : (row : Row) → T (has_effect row) → T (is_modelled row)
 effect_modelled unmodelled t = absurd t
 effect_modelled (opaque taken given) t = tt
 effect_modelled aload t = tt
-effect_modelled aloadFar t = tt
+effect_modelled aload_far t = tt
 effect_modelled (aload_of local) t = tt
 effect_modelled (carries taken places) t = tt
 effect_modelled keeps t = tt
@@ -354,7 +354,7 @@ none_is : (row : Row) → T (is_none row) → row ≡ unmodelled
 none_is unmodelled t = refl
 none_is (opaque taken given) t = absurd t
 none_is aload t = absurd t
-none_is aloadFar t = absurd t
+none_is aload_far t = absurd t
 none_is (aload_of local) t = absurd t
 none_is (carries taken places) t = absurd t
 none_is keeps t = absurd t

@@ -14,7 +14,7 @@ use Rattle.basics.proofs.Every.{both_first, both_second}
 use Rattle.jvms.specs.Stack.{Operand, int, long, float, double, reference, category1, category2, field, parameters, returned, dimensions, Cited, slots_of, slots_in}
 use Rattle.effects.specs.Agreement.{taken_by, given_by, above_by}
 use Rattle.effects.specs.Depth.{Rule, none, fixed, reads, writes, invokes}
-use Rattle.effects.specs.Rows.{Row, unmodelled, opaque, aload, aloadFar, aload_of, carries, keeps, gets, calls, puts, makes}
+use Rattle.effects.specs.Rows.{Row, unmodelled, opaque, aload, aload_far, aload_of, carries, keeps, gets, calls, puts, makes}
 
 abbrev pub cites : ℕ → ℕ → ℕ → ℕ → Cited
 cites f a g d = record { field = f; args = a; gives = g; dims = d }
@@ -90,7 +90,7 @@ pub taken_linear : (row : Row) → Linear (taken_by row)
 taken_linear unmodelled = constant 0
 taken_linear (opaque taken given) = constant taken
 taken_linear aload = constant 0
-taken_linear aloadFar = constant 0
+taken_linear aload_far = constant 0
 taken_linear (aload_of local) = constant 0
 taken_linear (carries taken places) = constant taken
 taken_linear keeps = constant 0
@@ -103,7 +103,7 @@ pub given_linear : (row : Row) → Linear (given_by row)
 given_linear unmodelled = constant 0
 given_linear (opaque taken given) = constant given
 given_linear aload = constant 1
-given_linear aloadFar = constant 1
+given_linear aload_far = constant 1
 given_linear (aload_of local) = constant 1
 given_linear (carries taken places) = constant (length places)
 given_linear keeps = constant 0

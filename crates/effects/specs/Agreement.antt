@@ -25,7 +25,7 @@ use Rattle.jvms.specs.Stack.{objectref, Operand, reference, Form, ◌⇒◌, Loc
 use Rattle.jvms.specs.Stack.{Cited, slots_of, slots_in, name_of, entry_of, key_at, key_count, operands_of}
 use Rattle.fixed.specs.Fixed.{fixed_length, key_length, size_at}
 use Rattle.effects.specs.Depth.{Rule, none, fixed, reads, writes, invokes, rule_of}
-use Rattle.effects.specs.Rows.{Row, unmodelled, opaque, aload, aloadFar, aload_of, carries, keeps, gets, calls, puts, makes, row_of, full_row_of, rows_of}
+use Rattle.effects.specs.Rows.{Row, unmodelled, opaque, aload, aload_far, aload_of, carries, keeps, gets, calls, puts, makes, row_of, full_row_of, rows_of}
 use Rattle.effects.specs.declared.Model.{Model}
 
 -- ---- what a row says
@@ -34,7 +34,7 @@ abbrev pub is_modelled : Row → Bool
 is_modelled unmodelled = false
 is_modelled (opaque taken given) = true
 is_modelled aload = true
-is_modelled aloadFar = true
+is_modelled aload_far = true
 is_modelled (aload_of local) = true
 is_modelled (carries taken places) = true
 is_modelled keeps = true
@@ -48,7 +48,7 @@ abbrev pub has_effect : Row → Bool
 has_effect unmodelled = false
 has_effect (opaque taken given) = true
 has_effect aload = true
-has_effect aloadFar = true
+has_effect aload_far = true
 has_effect (aload_of local) = true
 has_effect (carries taken places) = true
 has_effect keeps = false
@@ -62,7 +62,7 @@ abbrev pub taken_by : Row → Cited → ℕ
 taken_by unmodelled cited = 0
 taken_by (opaque taken given) cited = taken
 taken_by aload cited = 0
-taken_by aloadFar cited = 0
+taken_by aload_far cited = 0
 taken_by (aload_of local) cited = 0
 taken_by (carries taken places) cited = taken
 taken_by keeps cited = 0
@@ -75,7 +75,7 @@ abbrev pub given_by : Row → Cited → ℕ
 given_by unmodelled cited = 0
 given_by (opaque taken given) cited = given
 given_by aload cited = 1
-given_by aloadFar cited = 1
+given_by aload_far cited = 1
 given_by (aload_of local) cited = 1
 given_by (carries taken places) cited = length places
 given_by keeps cited = 0
@@ -93,7 +93,7 @@ abbrev pub Pushed : {Val : Type 0} → Row → Cited → List Val → (ℕ → V
 Pushed unmodelled cited taken own pushed = pushed ≡ []
 Pushed (opaque t given) cited taken own pushed = pushed ≡ run given 0 own
 Pushed aload cited taken own pushed = pushed ≡ run 1 0 own
-Pushed aloadFar cited taken own pushed = pushed ≡ run 1 0 own
+Pushed aload_far cited taken own pushed = pushed ≡ run 1 0 own
 Pushed (aload_of local) cited taken own pushed = pushed ≡ run 1 0 own
 Pushed (carries t places) cited taken own pushed = Carried places taken pushed
 Pushed keeps cited taken own pushed = pushed ≡ []
@@ -148,7 +148,7 @@ abbrev pub Details : Row → ℕ → Type 0
 Details unmodelled key = Unit {0}
 Details (opaque taken given) key = Unit {0}
 Details aload key = local_of (entry_of key) ≡ indexed ∷ []
-Details aloadFar key = local_of (entry_of key) ≡ far ∷ []
+Details aload_far key = local_of (entry_of key) ≡ far ∷ []
 Details (aload_of local) key = (local_of (entry_of key) ≡ numbered local ∷ []) × (local < 256)
 Details (carries taken places) key = T (within taken places)
 Details keeps key = Unit {0}
@@ -220,7 +220,7 @@ abbrev pub is_load : Row → Bool
 is_load unmodelled = false
 is_load (opaque taken given) = false
 is_load aload = true
-is_load aloadFar = true
+is_load aload_far = true
 is_load (aload_of local) = true
 is_load (carries taken places) = false
 is_load keeps = false

@@ -12,7 +12,7 @@ pub data Row : Type 0 where
   -- takes so many slots and pushes so many opaque ones
   opaque : ℕ → ℕ → Row
   -- pushes the load of the local that the next byte names, that the two bytes behind a widened opcode name, or that the opcode names
-  aload aloadFar : Row
+  aload aload_far : Row
   aload_of : ℕ → Row
   -- takes so many slots and pushes copies of them, each by its number from the top, 1 the topmost
   carries : ℕ → List ℕ → Row
@@ -104,7 +104,7 @@ unfoldable pub widened_row : ℕ → Row
 widened_row op =
     -- wide lload, wide dload; wide aload; wide iload, wide fload
     pick (one_of (22 ∷ 24 ∷ []) op) (opaque 0 2)
-    (pick (eqb op 25) aloadFar
+    (pick (eqb op 25) aload_far
     (pick (between 21 25 op) (opaque 0 1)
     -- wide lstore, wide dstore; wide istore, wide fstore, wide astore
     (pick (one_of (55 ∷ 57 ∷ []) op) (opaque 2 0)
@@ -121,7 +121,7 @@ abbrev pub or_row : Row → Row → Row
 or_row unmodelled other = other
 or_row (opaque taken given) other = opaque taken given
 or_row aload other = aload
-or_row aloadFar other = aloadFar
+or_row aload_far other = aload_far
 or_row (aload_of local) other = aload_of local
 or_row (carries taken places) other = carries taken places
 or_row keeps other = keeps

@@ -91,13 +91,13 @@ module _ (manner : Manner) (bytes : List ℕ) (places : Places) (reads : case_of
 
 -- a message is that of parts
 pub has_parts :
-    (manner : Manner) (bytes : List ℕ) (room outRoom size kind scan block : ℕ) →
-    report_in manner bytes room outRoom ≡ Message size kind scan block → (places : Places) × (case_of bytes ≡ cases.Parts places)
+    (manner : Manner) (bytes : List ℕ) (room out_room size kind scan block : ℕ) →
+    report_in manner bytes room out_room ≡ Message size kind scan block → (places : Places) × (case_of bytes ≡ cases.Parts places)
 unfolding report_in
-has_parts manner bytes room outRoom size kind scan block answer = by_case (case_of bytes) refl answer
+has_parts manner bytes room out_room size kind scan block answer = by_case (case_of bytes) refl answer
   where
     by_case :
-        (c : Case) → case_of bytes ≡ c → answer_of manner bytes room outRoom c ≡ Message size kind scan block →
+        (c : Case) → case_of bytes ≡ c → answer_of manner bytes room out_room c ≡ Message size kind scan block →
         (places : Places) × (case_of bytes ≡ cases.Parts places)
     by_case (cases.Parts places) e q = (places, e)
     by_case (cases.Wrong offset) e q = let z : ◌≡◌ {A = ℕ} 0 1 = cc in absurd (omega arith)

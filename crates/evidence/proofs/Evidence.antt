@@ -81,7 +81,7 @@ module _ (manner : Manner) (p : Parts) (pool : Pool) (room : ℕ) (message : Lis
         model = manner.model;
         code = p.code;
         members = p.members;
-        memberCount = p.memberCount;
+        member_count = p.member_count;
         fault = p.fault;
         leader = c.leader;
         height = length c.slots;
@@ -89,8 +89,8 @@ module _ (manner : Manner) (p : Parts) (pool : Pool) (room : ℕ) (message : Lis
         stack = shown room c.slots;
       }
 
-  deep : depth_of (lookup_in p.members p.memberCount) p.code p.fault ≡ at c.depth
-  deep = depth_is p.code p.members p.memberCount p.fault c.depth c.action c.decodes
+  deep : depth_of (lookup_in p.members p.member_count) p.code p.fault ≡ at c.depth
+  deep = depth_is p.code p.members p.member_count p.fault c.depth c.action c.decodes
 
   premises : Premises asked pool
   premises =
@@ -98,7 +98,7 @@ module _ (manner : Manner) (p : Parts) (pool : Pool) (room : ℕ) (message : Lis
         bytes = bytes;
         scan = scan;
         measured = c.leads;
-        inside = inside_is p.code p.members p.memberCount p.fault c.depth c.action deep;
+        inside = inside_is p.code p.members p.member_count p.fault c.depth c.action deep;
         room = room;
         walked = ap answer_of c.walks;
         left = sym (ap (cells_of room) c.walks);

@@ -40,11 +40,11 @@ module _ (manner : Manner) (p : Parts) (room : ℕ) (message : List ℕ) (scan b
   Two told = told ≡ said message 2 scan block
 
   module _ (action : Action) (depth : ℕ)
-      (decodes : decoded p.code p.members p.memberCount p.fault ≡ Failed action depth) where
+      (decodes : decoded p.code p.members p.member_count p.fault ≡ Failed action depth) where
     module _ (leader scanned : ℕ) (leads : scan_of p ≡ Leader leader scanned) where
       module _ (slots : List ℕ) (count : ℕ)
           (walks :
-          block_walk_in manner.model p.code p.members p.memberCount leader p.fault room ≡ fits (done slots count)) where
+          block_walk_in manner.model p.code p.members p.member_count leader p.fault room ≡ fits (done slots count)) where
         abbrev found : Slot
         found = unpacked (get_or slots (length slots - 1 - depth) 0)
 
@@ -79,7 +79,7 @@ module _ (manner : Manner) (p : Parts) (room : ℕ) (message : List ℕ) (scan b
         by_height false e told = let z : ◌≡◌ {A = ℕ} 1 2 = cc in absurd (omega arith)
 
       by_walk :
-          (walked : Roomed ℕ) → block_walk_in manner.model p.code p.members p.memberCount leader p.fault room ≡ walked →
+          (walked : Roomed ℕ) → block_walk_in manner.model p.code p.members p.member_count leader p.fault room ≡ walked →
           Two (said_by manner.wording p action (trace_of scanned depth walked)) → CausedIn manner p room message scan block
       unfolding slot_from
       by_walk (lacks index) e told = let z : ◌≡◌ {A = ℕ} 0 1 = cc in absurd (omega arith)
@@ -88,21 +88,21 @@ module _ (manner : Manner) (p : Parts) (room : ℕ) (message : List ℕ) (scan b
 
     by_scan :
         (x : Scan) → scan_of p ≡ x →
-        Two (said_by manner.wording p action (traced_by manner.model p.code p.members p.memberCount p.fault depth room x)) →
+        Two (said_by manner.wording p action (traced_by manner.model p.code p.members p.member_count p.fault depth room x)) →
         CausedIn manner p room message scan block
     by_scan (Leader leader scanned) e told =
-        by_walk leader scanned e (block_walk_in manner.model p.code p.members p.memberCount leader p.fault room) refl told
+        by_walk leader scanned e (block_walk_in manner.model p.code p.members p.member_count leader p.fault room) refl told
     by_scan (Unmeasured at scanned) e told = let z : ◌≡◌ {A = ℕ} 1 2 = cc in absurd (omega arith)
 
   by_fault :
-      (fault : Fault) → decoded p.code p.members p.memberCount p.fault ≡ fault → Two (said_at manner p room fault) →
+      (fault : Fault) → decoded p.code p.members p.member_count p.fault ≡ fault → Two (said_at manner p room fault) →
       CausedIn manner p room message scan block
   by_fault Nothing e told = let z : ◌≡◌ {A = ℕ} 0 1 = cc in absurd (omega arith)
   by_fault (Failed action depth) e told = by_scan action depth e (scan_of p) refl told
 
   has_cause : Two (said_in manner p room) → CausedIn manner p room message scan block
   unfolding said_in
-  has_cause told = by_fault (decoded p.code p.members p.memberCount p.fault) refl told
+  has_cause told = by_fault (decoded p.code p.members p.member_count p.fault) refl told
 
   -- ---- a cause makes kind 2
 
@@ -123,16 +123,16 @@ kind_two = kind_two_in document_manner
 -- a message without a cause is the action
 pub plain :
     (wording : Wording) (p : Parts) (action : Action) →
-    message_of wording p action Other ≡ action_text wording p.members p.memberCount action
+    message_of wording p action Other ≡ action_text wording p.members p.member_count action
 unfolding message_of message_text cause_text
-plain wording p action = append-nil (action_text wording p.members p.memberCount action)
+plain wording p action = append-nil (action_text wording p.members p.member_count action)
 
 module _ (manner : Manner) (p : Parts) (room : ℕ) (message : List ℕ) (kind scan block : ℕ) where
   abbrev Kinds : Type 0
   Kinds = ((kind ≡ 1) × ActionAlone manner.wording p message) ⊎ (kind ≡ 2)
 
   module _ (action : Action) (depth : ℕ)
-      (decodes : decoded p.code p.members p.memberCount p.fault ≡ Failed action depth) where
+      (decodes : decoded p.code p.members p.member_count p.fault ≡ Failed action depth) where
     by_cause :
         (cause : Slot) (scanned count : ℕ) →
         said (message_of manner.wording p action cause) (kind_of cause) scanned count ≡ said message kind scan block → Kinds
@@ -147,7 +147,7 @@ module _ (manner : Manner) (p : Parts) (room : ℕ) (message : List ℕ) (kind s
     by_trace (Traced scanned count cause) told = by_cause cause scanned count told
 
   by_decoding :
-      (fault : Fault) → decoded p.code p.members p.memberCount p.fault ≡ fault →
+      (fault : Fault) → decoded p.code p.members p.member_count p.fault ≡ fault →
       said_at manner p room fault ≡ said message kind scan block → Kinds
   by_decoding Nothing e told = let z : ◌≡◌ {A = ℕ} 0 1 = cc in absurd (omega arith)
   by_decoding (Failed action depth) e told =
@@ -156,7 +156,7 @@ module _ (manner : Manner) (p : Parts) (room : ℕ) (message : List ℕ) (kind s
 pub one_or_two_in : (manner : Manner) → OneOrTwoIn manner
 unfolding said_in
 one_or_two_in manner p room message kind scan block told =
-    by_decoding manner p room message kind scan block (decoded p.code p.members p.memberCount p.fault) refl told
+    by_decoding manner p room message kind scan block (decoded p.code p.members p.member_count p.fault) refl told
 
 pub one_or_two : OneOrTwo
 one_or_two = one_or_two_in document_manner

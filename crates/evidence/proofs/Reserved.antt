@@ -26,13 +26,13 @@ module _ (manner : Manner) (p : Parts) (room : ℕ) where
   said_alike : scan_of p ≡ block_leader document_length [] p.code p.fault → said_in manner p room ≡ said_by_document manner p room
   unfolding said_in
   said_alike same =
-      ap (λ (x : Scan). said_from manner x p room (decoded p.code p.members p.memberCount p.fault)) same
+      ap (λ (x : Scan). said_from manner x p room (decoded p.code p.members p.member_count p.fault)) same
 
   action-alone :
       (count pc : ℕ) →
       Arrived length_rule p.code count pc → 202 ≤ byte_at p.code pc → (action : Action) (depth : ℕ) →
-      decoded p.code p.members p.memberCount p.fault ≡ Failed action depth →
-      said_in manner p room ≡ said (action_text manner.wording p.members p.memberCount action) 1 count 0
+      decoded p.code p.members p.member_count p.fault ≡ Failed action depth →
+      said_in manner p room ≡ said (action_text manner.wording p.members p.member_count action) 1 count 0
   unfolding said_in
   action-alone count pc arrived high action depth decodes =
       rw (decodes, reserved_scan.stops [] p.code p.fault count pc arrived high)

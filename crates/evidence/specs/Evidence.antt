@@ -41,7 +41,7 @@ use Rattle.words.specs.declared.Wording.{Wording}
 abbrev pub WellDescribed : Parts → Pool → Type 0
 WellDescribed p pool =
     (leader scan pc : ℕ) → scan_of p ≡ Leader leader scan → InBlock p.code leader pc →
-    pc ≤ p.fault → Described (lookup_in p.members p.memberCount) pool p.code pc
+    pc ≤ p.fault → Described (lookup_in p.members p.member_count) pool p.code pc
 
 -- ---- what is shown
 
@@ -60,12 +60,12 @@ pub record Evidence (wording : Wording) (p : Parts) (pool : Pool) (message : Lis
   pub load : ℕ
   pub local : ℕ
   -- the action is the fault's
-  pub decodes : decoded p.code p.members p.memberCount p.fault ≡ Failed action depth
+  pub decodes : decoded p.code p.members p.member_count p.fault ≡ Failed action depth
   -- the message: the action in the wording, and the name of the local as it stands at its load
   pub words :
       message
-      ≡ action_text wording p.members p.memberCount action
-      ++ (ascii " because \"" ++ local_name p.records p.recordCount p.signature (is_instance p.flags) local load
+      ≡ action_text wording p.members p.member_count action
+      ++ (ascii " because \"" ++ local_name p.records p.record_count p.signature (is_instance p.flags) local load
       ++ ascii "\" is null")
   -- the block begins at its leader, and nothing that the scan knows lands between that and the fault
   pub leads : scan_of p ≡ Leader leader scan

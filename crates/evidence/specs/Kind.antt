@@ -27,11 +27,11 @@ pub record CausedIn (manner : Manner) (p : Parts) (room : ℕ) (message : List �
   pub load : ℕ
   pub local : ℕ
   -- the fault's action, and how deep the reference lies
-  pub decodes : decoded p.code p.members p.memberCount p.fault ≡ Failed action depth
+  pub decodes : decoded p.code p.members p.member_count p.fault ≡ Failed action depth
   pub leads : scan_of p ≡ Leader leader scan
   -- "the walk succeeds"
   pub walks :
-      block_walk_in manner.model p.code p.members p.memberCount leader p.fault room ≡ fits (done slots block)
+      block_walk_in manner.model p.code p.members p.member_count leader p.fault room ≡ fits (done slots block)
   -- "its height exceeds the depth"
   pub high : depth < length slots
   -- "the slot at that depth from the top is a load"
@@ -51,8 +51,8 @@ pub record KindTwoIn (manner : Manner) : Type 0 where
 pub record ActionAlone (wording : Wording) (p : Parts) (message : List ℕ) : Type 0 where
   pub action : Action
   pub depth : ℕ
-  pub decodes : decoded p.code p.members p.memberCount p.fault ≡ Failed action depth
-  pub words : message ≡ action_text wording p.members p.memberCount action
+  pub decodes : decoded p.code p.members p.member_count p.fault ≡ Failed action depth
+  pub words : message ≡ action_text wording p.members p.member_count action
 
 -- every message is of kind 1, with the action alone, or of kind 2
 abbrev pub OneOrTwoIn : Manner → Type 0

@@ -22,7 +22,7 @@ use Rattle.report.specs.declared.Manner.{Manner}
 abbrev pub said_by_document : Manner → Parts → ℕ → Said
 said_by_document manner p room =
     said_from manner (block_leader document_length [] p.code p.fault) p room
-    (decoded p.code p.members p.memberCount p.fault)
+    (decoded p.code p.members p.member_count p.fault)
 
 pub record ReservedReport (manner : Manner) : Type 0 where
   -- where the scan meets none, the report is that by document 01's lengths
@@ -32,8 +32,8 @@ pub record ReservedReport (manner : Manner) : Type 0 where
   pub action_alone :
       (p : Parts) (room count pc : ℕ) →
       Arrived length_rule p.code count pc → 202 ≤ byte_at p.code pc → (action : Action) (depth : ℕ) →
-      decoded p.code p.members p.memberCount p.fault ≡ Failed action depth →
-      said_in manner p room ≡ said (action_text manner.wording p.members p.memberCount action) 1 count 0
+      decoded p.code p.members p.member_count p.fault ≡ Failed action depth →
+      said_in manner p room ≡ said (action_text manner.wording p.members p.member_count action) 1 count 0
   -- no name is new: one that is given is given by document 01's lengths too, with message and counts
   pub same_name :
       (p : Parts) (room : ℕ) (message : List ℕ) (scan block : ℕ) →

@@ -17,7 +17,7 @@ use Rattle.items.specs.Text.{name_of, descriptor_of}
 use Rattle.lookup.specs.Lookup.{member_found}
 use Rattle.descriptor.specs.Readers.{parameters, field_slots}
 use Rattle.descriptor.specs.declared.Params.TheVariants.{Read, Unreadable}
-use Rattle.effects.specs.Depth.{Rule, none, fixed, reads, writes, invokes as invokesRule, rule_of, depth_by, depth_of}
+use Rattle.effects.specs.Depth.{Rule, none, fixed, reads, writes, invokes as invokes_rule, rule_of, depth_by, depth_of}
 use Rattle.effects.specs.Lookup.{lookup_in}
 use Rattle.fault.specs.Decoding.{invokes, action_of, constructs, failed_at, decoded}
 use Rattle.fault.specs.Inside.{decoded_as}
@@ -169,11 +169,11 @@ is_none none = true
 is_none (fixed depth) = false
 is_none reads = false
 is_none writes = false
-is_none invokesRule = false
+is_none invokes_rule = false
 
 pub none_so : (rule : Rule) → T (is_none rule) → rule ≡ none
 none_so none t = refl
 none_so (fixed depth) t = absurd t
 none_so reads t = absurd t
 none_so writes t = absurd t
-none_so invokesRule t = absurd t
+none_so invokes_rule t = absurd t

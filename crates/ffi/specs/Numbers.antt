@@ -22,7 +22,7 @@ use Rattle.structs.specs.declared.KorsepalWalk.{KorsepalWalk}
 
 -- of the parts of a case
 abbrev pub walk_in : Model → Parts → ℕ → ℕ → ℕ → Roomed ℕ
-walk_in model p leader fault room = block_walk_in model p.code p.members p.memberCount leader fault room
+walk_in model p leader fault room = block_walk_in model p.code p.members p.member_count leader fault room
 
 abbrev pub case_walk_in : Model → List ℕ → ℕ → ℕ → ℕ → Case → KorsepalWalk
 case_walk_in model bytes leader fault room (cases.Parts places) =
@@ -51,7 +51,7 @@ spoken text = said text 0 0 0
 
 -- the name of a local whose load stands at an index
 abbrev pub name_in : Parts → ℕ → ℕ → List ℕ
-name_in p local load = local_name p.records p.recordCount p.signature (is_instance p.flags) local load
+name_in p local load = local_name p.records p.record_count p.signature (is_instance p.flags) local load
 
 abbrev pub case_name : List ℕ → ℕ → ℕ → ℕ → Case → Report
 case_name bytes local load room (cases.Parts places) = answer_by (spoken (name_in (parts_of bytes places) local load)) room

@@ -18,16 +18,16 @@ use Rattle.descriptor.proofs.Return.{behind_end}
 use Rattle.items.specs.Text.{descriptor_of}
 use Rattle.index.specs.Index.{found_by}
 use Rattle.effects.specs.Lookup.{Lookup, Known, missing, known, known_by}
-use Rattle.effects.specs.Rows.{aload, aloadFar, gets, calls, puts, makes}
+use Rattle.effects.specs.Rows.{aload, aload_far, gets, calls, puts, makes}
 use Rattle.effects.proofs.Known.{known_none, known_some}
-use Rattle.walk.specs.Walk.{notModelled, cut, blanks, load, Effect, fails, does, getting, putting, calling, effect_by}
+use Rattle.walk.specs.Walk.{not_modelled, cut, blanks, load, Effect, fails, does, getting, putting, calling, effect_by}
 use Rattle.instruction.specs.Code.{bare}
 use Rattle.instruction.specs.Lookup.{lookup_by, cited_texts, slots_known, cited_slots}
 
 -- ---- a load
 
 module _ (code : List ℕ) (pc : ℕ) (lookup : Lookup) where
-  pub load_cut : length code ≤ pc + 1 → fails notModelled ≡ bare (effect_by lookup code pc aload)
+  pub load_cut : length code ≤ pc + 1 → fails not_modelled ≡ bare (effect_by lookup code pc aload)
   load_cut l = rw (le-ltb (pc + 1) (length code) l)
 
   pub loads : pc + 1 < length code → does 0 (load (byte_at code (pc + 1))) ≡ bare (effect_by lookup code pc aload)
@@ -35,22 +35,22 @@ module _ (code : List ℕ) (pc : ℕ) (lookup : Lookup) where
 
 -- of a local that two bytes behind a widened opcode name
 module _ (code : List ℕ) (pc : ℕ) (lookup : Lookup) where
-  pub far_cut : length code ≤ pc + 3 → fails notModelled ≡ bare (effect_by lookup code pc aloadFar)
+  pub far_cut : length code ≤ pc + 3 → fails not_modelled ≡ bare (effect_by lookup code pc aload_far)
   far_cut l = rw (le-ltb (pc + 3) (length code) l)
 
   pub loads_far :
       (local : ℕ) → local ≡ u16_at code (pc + 2) → pc + 3 < length code →
-      does 0 (load local) ≡ bare (effect_by lookup code pc aloadFar)
+      does 0 (load local) ≡ bare (effect_by lookup code pc aload_far)
   loads_far local is l = rw (is, lt-ltb (pc + 3) (length code) l)
 
 -- ---- arrays of so many dimensions
 
 module _ (code : List ℕ) (pc : ℕ) (lookup : Lookup) where
-  pub make_cut : length code ≤ pc + 3 → fails notModelled ≡ bare (effect_by lookup code pc makes)
+  pub make_cut : length code ≤ pc + 3 → fails not_modelled ≡ bare (effect_by lookup code pc makes)
   make_cut l = rw (le-ltb (pc + 3) (length code) l)
 
   module _ (inside : pc + 3 < length code) where
-    pub make_none : byte_at code (pc + 3) ≡ 0 → fails notModelled ≡ bare (effect_by lookup code pc makes)
+    pub make_none : byte_at code (pc + 3) ≡ 0 → fails not_modelled ≡ bare (effect_by lookup code pc makes)
     make_none e = rw (lt-ltb (pc + 3) (length code) inside, eq-eqb (byte_at code (pc + 3)) 0 e)
 
     pub made :
@@ -71,8 +71,8 @@ module _ (members : List ℕ) (count : ℕ) (table code : List ℕ) (pc kind : �
 -- an effect that goes by what is known of the member, where the code found no texts, or some
 module _ (by : Known → Effect) (found texts : List ℕ) where
   none_known :
-      (b : Bool) → texts ≡ pick b found [] → length texts ≡ 0 → fails notModelled ≡ bare (by missing) →
-      fails notModelled ≡ bare (pick b (by (known_by found)) (fails cut))
+      (b : Bool) → texts ≡ pick b found [] → length texts ≡ 0 → fails not_modelled ≡ bare (by missing) →
+      fails not_modelled ≡ bare (pick b (by (known_by found)) (fails cut))
   none_known true e none is = rw (← e, known_none texts none) is
   none_known false e none is = refl
 
@@ -109,10 +109,10 @@ module _ (code : List ℕ) (pc : ℕ) (members : List ℕ) (count : ℕ) (table 
 
 -- ---- a field that is read or written: an effect that goes by its slots
 
-module _ (by : Known → Effect) (of : ℕ → Effect) (none : fails notModelled ≡ bare (by missing))
+module _ (by : Known → Effect) (of : ℕ → Effect) (none : fails not_modelled ≡ bare (by missing))
     (some : (descriptor : List ℕ) → by (known descriptor) ≡ of (field_slots descriptor)) where
   unread_so :
-      (b : Bool) (k : Known) → pick b (slots_known k) NoSlots ≡ NoSlots → fails notModelled ≡ bare (pick b (by k) (fails cut))
+      (b : Bool) (k : Known) → pick b (slots_known k) NoSlots ≡ NoSlots → fails not_modelled ≡ bare (pick b (by k) (fails cut))
   unread_so true missing e = none
   unread_so true (known descriptor) e = let z : ◌≡◌ {A = ℕ} 0 1 = cc in absurd (omega arith)
   unread_so false k e = refl
@@ -127,7 +127,7 @@ module _ (by : Known → Effect) (of : ℕ → Effect) (none : fails notModelled
   read_so false k slots e = let z : ◌≡◌ {A = ℕ} 0 1 = cc in absurd (omega arith)
 
 module _ (code : List ℕ) (pc : ℕ) (lookup : Lookup) (takes : ℕ) where
-  pub get_none : cited_slots lookup code pc ≡ NoSlots → fails notModelled ≡ bare (effect_by lookup code pc (gets takes))
+  pub get_none : cited_slots lookup code pc ≡ NoSlots → fails not_modelled ≡ bare (effect_by lookup code pc (gets takes))
   get_none =
       unread_so (getting takes) (λ n. does takes (blanks n)) refl (λ d. refl) (ltb (pc + 2) (length code))
       (lookup 0 (u16_at code (pc + 1)))
@@ -139,7 +139,7 @@ module _ (code : List ℕ) (pc : ℕ) (lookup : Lookup) (takes : ℕ) where
       read_so (getting takes) (λ n. does takes (blanks n)) refl (λ d. refl) (ltb (pc + 2) (length code))
       (lookup 0 (u16_at code (pc + 1)))
 
-  pub put_none : cited_slots lookup code pc ≡ NoSlots → fails notModelled ≡ bare (effect_by lookup code pc (puts takes))
+  pub put_none : cited_slots lookup code pc ≡ NoSlots → fails not_modelled ≡ bare (effect_by lookup code pc (puts takes))
   put_none =
       unread_so (putting takes) (λ n. does (takes + n) (blanks 0)) refl (λ d. refl) (ltb (pc + 2) (length code))
       (lookup 0 (u16_at code (pc + 1)))
@@ -158,18 +158,18 @@ module _ (code : List ℕ) (pc : ℕ) (members : List ℕ) (count : ℕ) (table 
   Calls effect = effect ≡ bare (effect_by (lookup_by members count table) code pc (calls takes))
 
   module _ (is : texts ≡ cited_texts members count table code pc 1) where
-    pub call_none : length texts ≡ 0 → Calls (fails notModelled)
+    pub call_none : length texts ≡ 0 → Calls (fails not_modelled)
     unfolding lookup_by
     call_none none = none_known (calling takes) _ texts (ltb (pc + 2) (length code)) is none refl
 
     module _ (some : length texts ≡ 0 → ⊥) where
-      pub call_unread : parameters (descriptor_of texts) ≡ NoParams → Calls (fails notModelled)
+      pub call_unread : parameters (descriptor_of texts) ≡ NoParams → Calls (fails not_modelled)
       unfolding lookup_by
       call_unread p = some_known (calling takes) _ texts (ltb (pc + 2) (length code)) _ is some (rw p)
 
       pub call_endless :
           (args end : ℕ) → parameters (descriptor_of texts) ≡ Read args end →
-          slots_behind (descriptor_of texts) (At end) ≡ NoSlots → Calls (fails notModelled)
+          slots_behind (descriptor_of texts) (At end) ≡ NoSlots → Calls (fails not_modelled)
       unfolding lookup_by
       call_endless args end p r =
           some_known (calling takes) _ texts (ltb (pc + 2) (length code)) _ is some

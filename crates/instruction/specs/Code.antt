@@ -2,13 +2,13 @@
 -- Assumes nothing.
 use Rattle.std.specs.Prelude.{ℕ, ◌+◌}
 use Rattle.row.specs.Code.{copy_places, swap_places}
-use Rattle.walk.specs.Walk.{notModelled, Push, blanks, load, carried, unread, Effect, fails, does}
+use Rattle.walk.specs.Walk.{not_modelled, Push, blanks, load, carried, unread, Effect, fails, does}
 use Rattle.instruction.specs.declared.Effect.{Effect as CodeEffect}
 use Rattle.instruction.specs.declared.Effect.TheVariants.{Fails, Opaque, Load, Copies, Swap}
 
 -- the code knows that an effect fails, not why
 abbrev pub effect_from : CodeEffect → Effect
-effect_from Fails = fails notModelled
+effect_from Fails = fails not_modelled
 effect_from (Opaque takes gives) = does takes (blanks gives)
 effect_from (Load local) = does 0 (load local)
 effect_from (Copies count under) = does (count + under) (carried (copy_places count under))
@@ -18,9 +18,9 @@ abbrev pub bare_push : ℕ → Push → Effect
 bare_push takes (blanks n) = does takes (blanks n)
 bare_push takes (load local) = does takes (load local)
 bare_push takes (carried places) = does takes (carried places)
-bare_push takes (unread reason) = fails notModelled
+bare_push takes (unread reason) = fails not_modelled
 
 -- an effect without its reason
 abbrev pub bare : Effect → Effect
-bare (fails reason) = fails notModelled
+bare (fails reason) = fails not_modelled
 bare (does takes push) = bare_push takes push

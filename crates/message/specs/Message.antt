@@ -17,5 +17,5 @@ cause_text (Loaded load local) records count signature instance =
 
 -- the action in a wording, and the cause where a load is known
 unfoldable pub message_text : Wording → List ℕ → ℕ → Action → Slot → List ℕ → ℕ → List ℕ → Bool → List ℕ
-message_text wording members memberCount action cause records recordCount signature instance =
-    action_text wording members memberCount action ++ cause_text cause records recordCount signature instance
+message_text wording members member_count action cause records record_count signature instance =
+    action_text wording members member_count action ++ cause_text cause records record_count signature instance

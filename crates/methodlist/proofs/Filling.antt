@@ -20,7 +20,7 @@ use Rattle.methods.specs.Method.{body_place, method_told}
 use Rattle.methods.specs.declared.MethodPlace.{MethodPlace}
 use Rattle.methods.specs.declared.MethodRead.TheVariants.{Read, Wrong}
 use Rattle.standing.proofs.Codes.{BodyAt, method_stands}
-use Rattle.methodlist.specs.List.{code_start, code_size, recordCount, method_numbers, listed, CodeInside, code_numbers, numbers_by}
+use Rattle.methodlist.specs.List.{code_start, code_size, record_count, method_numbers, listed, CodeInside, code_numbers, numbers_by}
 use Rattle.methodlist.specs.declared.CodeNumbers.{CodeNumbers}
 
 -- ---- one method
@@ -65,7 +65,7 @@ module _ (file table : List ℕ) where
   -- the records that are counted are those of the code
   body_numbers :
       (body : Body) → BodyAt file names body →
-      code_numbers file table (body_place body) ≡ record { start = code_start body; size = code_size body; records = recordCount body }
+      code_numbers file table (body_place body) ≡ record { start = code_start body; size = code_size body; records = record_count body }
   body_numbers bodiless stands = refl
   body_numbers (coded code) stands =
       let counted : ℕ → CodeNumbers = λ n. record { start = code.start; size = code.size; records = n } in

@@ -37,9 +37,9 @@ abbrev pub code_size : Body → ℕ
 code_size bodiless = 0
 code_size (coded code) = code.size
 
-abbrev pub recordCount : Body → ℕ
-recordCount bodiless = 0
-recordCount (coded code) = length code.tables.locals
+abbrev pub record_count : Body → ℕ
+record_count bodiless = 0
+record_count (coded code) = length code.tables.locals
 
 -- the eight, by the entries that its name and its descriptor lead to
 abbrev pub method_numbers : (ℕ → Entry) → Method → List ℕ
@@ -48,7 +48,7 @@ method_numbers entry m =
     ∷ code_start m.body ∷ code_size m.body
     ∷ text_start (entry m.name) ∷ text_size (entry m.name)
     ∷ text_start (entry m.descriptor) ∷ text_size (entry m.descriptor)
-    ∷ recordCount m.body ∷ []
+    ∷ record_count m.body ∷ []
 
 -- those of many methods, in the file's order
 unfoldable pub listed : (ℕ → Entry) → List Method → List ℕ

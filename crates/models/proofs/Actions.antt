@@ -73,10 +73,10 @@ module _ (manner : Manner) (p : Parts) (room : ℕ) (message : List ℕ) (kind s
   module _ (action : Action) (depth : ℕ) (decodes : fault p ≡ Failed action depth) where
     trace_scans :
         (x : Scan) (s count : ℕ) (cause : Slot) →
-        traced_by manner.model p.code p.members p.memberCount p.fault depth room x ≡ Traced s count cause →
+        traced_by manner.model p.code p.members p.member_count p.fault depth room x ≡ Traced s count cause →
         s ≡ scanned x
     trace_scans (Leader leader seen) s count cause e =
-        walk_scans seen depth (block_walk_in manner.model p.code p.members p.memberCount leader p.fault room)
+        walk_scans seen depth (block_walk_in manner.model p.code p.members p.member_count leader p.fault room)
         s count cause e
     trace_scans (Unmeasured at seen) s count cause e = cc
 

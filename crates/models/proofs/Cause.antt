@@ -17,12 +17,12 @@ use Rattle.models.proofs.Walk.{walks_alike}
 
 module _ (w : Wording) (p : Parts) (room : ℕ) (message : List ℕ) (scan block : ℕ)
     (c : CausedIn (old w) p room message scan block) where
-  walks : SameWalk p.code p.members p.memberCount c.leader p.fault room c.slots block
-  walks = walks_alike p.code p.members p.memberCount c.leader p.fault room c.slots block c.walks
+  walks : SameWalk p.code p.members p.member_count c.leader p.fault room c.slots block
+  walks = walks_alike p.code p.members p.member_count c.leader p.fault room c.slots block c.walks
 
   module _ (room' : ℕ) where
     abbrev walked : Roomed ℕ
-    walked = block_walk_in Full p.code p.members p.memberCount c.leader p.fault room'
+    walked = block_walk_in Full p.code p.members p.member_count c.leader p.fault room'
 
     -- all but the walk is the same in every manner
     full_cause : walked ≡ fits (done c.slots block) → CausedIn (full w) p room' message scan block

@@ -27,7 +27,7 @@ use Rattle.effects.specs.Lookup.{lookup_in}
 use Rattle.effects.specs.Rows.{row_of}
 use Rattle.effects.specs.declared.Model.TheVariants.{Document}
 use Rattle.walk.specs.Room.{Completed, Roomed, lacks, fits, completed, judged, block_walk, block_walk_in}
-use Rattle.walk.specs.Room.{answer_of as walkAnswer}
+use Rattle.walk.specs.Room.{answer_of as walk_answer}
 use Rattle.walk.specs.declared.Walk.TheVariants.{Done}
 use Rattle.walk.specs.Walk.{cells, Walked, done, failed, walk}
 use Rattle.walks.specs.Cells.{document_cells, document_unpacked, SameSlot}
@@ -67,7 +67,7 @@ end_same scan depth both_failed = refl
 
 -- ---- an answer
 
-answer_same : {former walked : Walked ℕ} → EndAlike SameSlot former walked → walkAnswer (fits walked) ≡ walkAnswer (fits former)
+answer_same : {former walked : Walked ℕ} → EndAlike SameSlot former walked → walk_answer (fits walked) ≡ walk_answer (fits former)
 answer_same (both_done {slots} {others} {count} each) = ap (λ (height : ℕ). Done height count) (sym (each_length each))
 answer_same both_failed = refl
 
@@ -106,7 +106,7 @@ module _ (code members : List ℕ) (are : AreBytes code) (short : length code �
 module _ (p : Parts) (are : AreBytes p.code) (short : length p.code ≤ 2 ^ 48) where
   traced_same : (depth room : ℕ) (scan : Scan) → traced_from Document scan p depth room ≡ former_traced p depth room scan
   traced_same depth room (Leader leader scan) =
-      walks_same p.code p.members are short p.memberCount leader p.fault room (trace_of scan depth) (former_trace scan depth)
+      walks_same p.code p.members are short p.member_count leader p.fault room (trace_of scan depth) (former_trace scan depth)
       (λ index. refl) (λ v w alike. end_same scan depth alike)
   traced_same depth room (Unmeasured at scan) = refl
 
@@ -117,7 +117,7 @@ module _ (p : Parts) (are : AreBytes p.code) (short : length p.code ≤ 2 ^ 48) 
 
   said_same : (w : Wording) (room : ℕ) → said_in (manner_of Document w) p room ≡ former_said w p room
   unfolding said_in
-  said_same w room = said-at w room (decoded p.code p.members p.memberCount p.fault)
+  said_same w room = said-at w room (decoded p.code p.members p.member_count p.fault)
 
 -- ---- cases
 
@@ -137,10 +137,10 @@ module _ (bytes : List ℕ) (are : AreBytes bytes) (places : Places) (reads : ca
 
 module _ (w : Wording) (bytes : List ℕ) (are : AreBytes bytes) (room : ℕ) where
   answers_same :
-      (outRoom : ℕ) (c : Case) → case_of bytes ≡ c → answer_of (manner_of Document w) bytes room outRoom c ≡ former_answer w bytes room outRoom c
-  answers_same outRoom (cases.Parts places) reads = ap (λ (told : Said). answer_by told outRoom) (case_same bytes are places reads w room)
-  answers_same outRoom (cases.Wrong offset) reads = refl
-  answers_same outRoom cases.TooLong reads = refl
+      (out_room : ℕ) (c : Case) → case_of bytes ≡ c → answer_of (manner_of Document w) bytes room out_room c ≡ former_answer w bytes room out_room c
+  answers_same out_room (cases.Parts places) reads = ap (λ (told : Said). answer_by told out_room) (case_same bytes are places reads w room)
+  answers_same out_room (cases.Wrong offset) reads = refl
+  answers_same out_room cases.TooLong reads = refl
 
   outputs_same :
       (out : List ℕ) (c : Case) → case_of bytes ≡ c → output_of (manner_of Document w) bytes room out c ≡ former_output w bytes room out c
@@ -153,8 +153,8 @@ unfolding report_in reported_by
 present_unmoved =
     record {
       walks = λ code members are short count leader fault room.
-          walks_same code members are short count leader fault room walkAnswer walkAnswer (λ index. refl) (λ v w alike. answer_same alike);
+          walks_same code members are short count leader fault room walk_answer walk_answer (λ index. refl) (λ v w alike. answer_same alike);
       said = λ w p are short. said_same p are short w;
-      answers = λ w bytes are room outRoom. answers_same w bytes are room outRoom (case_of bytes) refl;
+      answers = λ w bytes are room out_room. answers_same w bytes are room out_room (case_of bytes) refl;
       outputs = λ w bytes are room out. outputs_same w bytes are room out (case_of bytes) refl;
     }

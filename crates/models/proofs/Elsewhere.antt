@@ -23,14 +23,14 @@ use Rattle.models.specs.Models.{old, full, SameElsewhere, SameLack}
 use Rattle.models.proofs.Walk.{full_is, full_lacks}
 
 abbrev pub fault : Parts → Fault
-fault p = decoded p.code p.members p.memberCount p.fault
+fault p = decoded p.code p.members p.member_count p.fault
 
 -- what is said of a fault by a walk
 abbrev told : Wording → Parts → Action → ℕ → ℕ → Roomed ℕ → Said
 told w p action depth scan walked = said_by w p action (trace_of scan depth walked)
 
 abbrev walk_in : Model → Parts → ℕ → ℕ → Roomed ℕ
-walk_in model p leader room = block_walk_in model p.code p.members p.memberCount leader p.fault room
+walk_in model p leader room = block_walk_in model p.code p.members p.member_count leader p.fault room
 
 -- all but the walk is the same, so what holds of it in both models holds of what is said
 module _ (w : Wording) (p : Parts) (room : ℕ) (Holds : Said → Said → Type 0) (same : (what : Said) → Holds what what)
@@ -56,7 +56,7 @@ same_elsewhere w p elsewhere room =
     in_both w p room (λ one other. other ≡ one) (λ what. refl)
     (λ action depth leader scan decodes leads.
     ap (told w p action depth scan)
-    (full_is p.code p.members p.memberCount leader p.fault
+    (full_is p.code p.members p.member_count leader p.fault
     (λ count index e.
     elsewhere
     (record {
@@ -85,5 +85,5 @@ same_lack w p room index =
     in_both w p room (λ one other. one ≡ roomless index → other ≡ roomless index) (λ what e. e)
     (λ action depth leader scan decodes leads e.
     ap (told w p action depth scan)
-    (full_lacks p.code p.members p.memberCount leader p.fault room index
+    (full_lacks p.code p.members p.member_count leader p.fault room index
     (lacking w p action depth scan (walk_in Document p leader room) index e)))

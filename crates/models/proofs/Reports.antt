@@ -58,24 +58,24 @@ reports_alike = same_report
 -- ---- the other answers
 
 -- where an answer of one manner is that of another for parts, it is for every case
-module _ (one other : Manner) (bytes : List ℕ) (room room' outRoom outRoom' : ℕ) (answer : Report) where
+module _ (one other : Manner) (bytes : List ℕ) (room room' out_room out_room' : ℕ) (answer : Report) where
   by_parts :
-      ((places : Places) → case_of bytes ≡ cases.Parts places → answer_by (said_in one (parts_of bytes places) room) outRoom ≡ answer →
-      answer_by (said_in other (parts_of bytes places) room') outRoom' ≡ answer) →
-      report_in one bytes room outRoom ≡ answer → report_in other bytes room' outRoom' ≡ answer
+      ((places : Places) → case_of bytes ≡ cases.Parts places → answer_by (said_in one (parts_of bytes places) room) out_room ≡ answer →
+      answer_by (said_in other (parts_of bytes places) room') out_room' ≡ answer) →
+      report_in one bytes room out_room ≡ answer → report_in other bytes room' out_room' ≡ answer
   unfolding report_in
   by_parts parts e = by_case (case_of bytes) refl e
     where
       by_case :
-          (c : Case) → case_of bytes ≡ c → answer_of one bytes room outRoom c ≡ answer → answer_of other bytes room' outRoom' c ≡ answer
+          (c : Case) → case_of bytes ≡ c → answer_of one bytes room out_room c ≡ answer → answer_of other bytes room' out_room' c ≡ answer
       by_case (cases.Parts places) reads q = parts places reads q
       by_case (cases.Wrong offset) reads q = q
       by_case cases.TooLong reads q = q
 
-pub silent_answer : (told : Said) (outRoom : ℕ) → answer_by told outRoom ≡ NoMessage → told ≡ silent
-silent_answer silent outRoom e = refl
-silent_answer (roomless index) outRoom e = let z : ◌≡◌ {A = ℕ} 0 1 = cc in absurd (omega arith)
-silent_answer (said message kind scan block) outRoom e = by_room (leb (length message) outRoom) e
+pub silent_answer : (told : Said) (out_room : ℕ) → answer_by told out_room ≡ NoMessage → told ≡ silent
+silent_answer silent out_room e = refl
+silent_answer (roomless index) out_room e = let z : ◌≡◌ {A = ℕ} 0 1 = cc in absurd (omega arith)
+silent_answer (said message kind scan block) out_room e = by_room (leb (length message) out_room) e
   where
     by_room :
         (b : Bool) → pick b (Message (length message) kind scan block) (NoOutput (needed message)) ≡ NoMessage →
@@ -84,17 +84,17 @@ silent_answer (said message kind scan block) outRoom e = by_room (leb (length me
     by_room false q = let z : ◌≡◌ {A = ℕ} 0 1 = cc in absurd (omega arith)
 
 pub no_message_alike : NoMessageAlike
-no_message_alike one other bytes room room' outRoom outRoom' =
-    by_parts one other bytes room room' outRoom outRoom' NoMessage
+no_message_alike one other bytes room room' out_room out_room' =
+    by_parts one other bytes room room' out_room out_room' NoMessage
     (λ places reads e.
     let p : Parts = parts_of bytes places in
-    ap (λ (told : Said). answer_by told outRoom')
-    (silent_alike one other p room room' (silent_answer (said_in one p room) outRoom e)))
+    ap (λ (told : Said). answer_by told out_room')
+    (silent_alike one other p room room' (silent_answer (said_in one p room) out_room e)))
 
-pub roomless_answer : (told : Said) (outRoom index : ℕ) → answer_by told outRoom ≡ NoRoom index → told ≡ roomless index
-roomless_answer silent outRoom index e = let z : ◌≡◌ {A = ℕ} 0 1 = cc in absurd (omega arith)
-roomless_answer (roomless at) outRoom index e = let same : at ≡ index = cc in ap roomless same
-roomless_answer (said message kind scan block) outRoom index e = by_room (leb (length message) outRoom) e
+pub roomless_answer : (told : Said) (out_room index : ℕ) → answer_by told out_room ≡ NoRoom index → told ≡ roomless index
+roomless_answer silent out_room index e = let z : ◌≡◌ {A = ℕ} 0 1 = cc in absurd (omega arith)
+roomless_answer (roomless at) out_room index e = let same : at ≡ index = cc in ap roomless same
+roomless_answer (said message kind scan block) out_room index e = by_room (leb (length message) out_room) e
   where
     by_room :
         (b : Bool) → pick b (Message (length message) kind scan block) (NoOutput (needed message)) ≡ NoRoom index →
@@ -103,22 +103,22 @@ roomless_answer (said message kind scan block) outRoom index e = by_room (leb (l
     by_room false q = let z : ◌≡◌ {A = ℕ} 0 1 = cc in absurd (omega arith)
 
 pub no_room_alike : NoRoomAlike
-no_room_alike w bytes room outRoom outRoom' index =
-    by_parts (old w) (full w) bytes room room outRoom outRoom' (NoRoom index)
+no_room_alike w bytes room out_room out_room' index =
+    by_parts (old w) (full w) bytes room room out_room out_room' (NoRoom index)
     (λ places reads e.
     let p : Parts = parts_of bytes places in
-    ap (λ (told : Said). answer_by told outRoom')
-    (same_lack w p room index (roomless_answer (said_in (old w) p room) outRoom index e)))
+    ap (λ (told : Said). answer_by told out_room')
+    (same_lack w p room index (roomless_answer (said_in (old w) p room) out_room index e)))
 
 -- ---- all answers and outputs, where document 01's model does not give up
 
 module _ (w : Wording) (bytes : List ℕ)
     (elsewhere : (places : Places) → case_of bytes ≡ cases.Parts places → GivesUp (parts_of bytes places) → ⊥) where
-  same_answers : (room outRoom : ℕ) → report_in (full w) bytes room outRoom ≡ report_in (old w) bytes room outRoom
-  same_answers room outRoom =
-      by_parts (old w) (full w) bytes room room outRoom outRoom (report_in (old w) bytes room outRoom)
+  same_answers : (room out_room : ℕ) → report_in (full w) bytes room out_room ≡ report_in (old w) bytes room out_room
+  same_answers room out_room =
+      by_parts (old w) (full w) bytes room room out_room out_room (report_in (old w) bytes room out_room)
       (λ places reads e.
-      ap (λ (told : Said). answer_by told outRoom) (same_elsewhere w (parts_of bytes places) (elsewhere places reads) room) ∙ e)
+      ap (λ (told : Said). answer_by told out_room) (same_elsewhere w (parts_of bytes places) (elsewhere places reads) room) ∙ e)
       refl
 
   same_outputs : (room : ℕ) (out : List ℕ) → reported_by (full w) bytes room out ≡ reported_by (old w) bytes room out

@@ -13,7 +13,7 @@ use Rattle.effects.specs.Rows.{row_of, full_row_of}
 use Rattle.effects.proofs.Rows.{models_added}
 use Rattle.effects.specs.declared.Model.TheVariants.{Full}
 use Rattle.walk.specs.Room.{Completed, lacks, fits, judged, completed, block_walk, block_walk_in}
-use Rattle.walk.specs.Walk.{notModelled, cells, Walked, done, failed, walk}
+use Rattle.walk.specs.Walk.{not_modelled, cells, Walked, done, failed, walk}
 use Rattle.walks.proofs.Extends.{walk_extends, walk_reaches}
 use Rattle.models.specs.Models.{SameWalk, WalksAlike}
 
@@ -71,7 +71,7 @@ module _ (code members : List ℕ) (count leader fault : ℕ) where
   heights = completed cells row_of lookup code fault leader
 
   pub full_is :
-      ((n index : ℕ) → walked ≡ failed n index notModelled → ⊥) → (room : ℕ) →
+      ((n index : ℕ) → walked ≡ failed n index not_modelled → ⊥) → (room : ℕ) →
       block_walk_in Full code members count leader fault room ≡ block_walk code members count leader fault room
   unfolding block_walk_in
   full_is modelled room =
@@ -99,7 +99,7 @@ module _ (code members : List ℕ) (count leader fault : ℕ) where
     full_succeeds =
         full_is
         (λ n index e.
-        let ends : done slots block ≡ failed n index notModelled = sym succeeds ∙ e in
+        let ends : done slots block ≡ failed n index not_modelled = sym succeeds ∙ e in
         let z : ◌≡◌ {A = ℕ} 0 1 = cc in
         omega arith)
 

@@ -17,7 +17,7 @@ use Rattle.effects.specs.Lookup.{lookup_in}
 use Rattle.effects.specs.Rows.{row_of}
 use Rattle.effects.specs.declared.Model.TheVariants.{Document}
 use Rattle.walk.specs.Room.{Roomed, lacks, fits, completed, judged, block_walk}
-use Rattle.walk.specs.Room.{answer_of as walkAnswer}
+use Rattle.walk.specs.Room.{answer_of as walk_answer}
 use Rattle.walk.specs.Walk.{done, failed, walk}
 use Rattle.walks.specs.Cells.{document_cells, document_unpacked}
 use Rattle.trace.specs.declared.Trace.{Trace}
@@ -48,7 +48,7 @@ former_trace scan depth (fits (done slots block)) = Traced scan block (former_sl
 
 abbrev pub former_traced : Parts → ℕ → ℕ → Scan → Trace
 former_traced p depth room (Leader leader scan) =
-    former_trace scan depth (former_walk p.code p.members p.memberCount leader p.fault room)
+    former_trace scan depth (former_walk p.code p.members p.member_count leader p.fault room)
 former_traced p depth room (Unmeasured at scan) = Traced scan 0 Other
 
 abbrev pub former_said_at : Wording → Parts → ℕ → Fault → Said
@@ -56,12 +56,12 @@ former_said_at w p room Nothing = silent
 former_said_at w p room (Failed action depth) = said_by w p action (former_traced p depth room (scan_of p))
 
 abbrev pub former_said : Wording → Parts → ℕ → Said
-former_said w p room = former_said_at w p room (decoded p.code p.members p.memberCount p.fault)
+former_said w p room = former_said_at w p room (decoded p.code p.members p.member_count p.fault)
 
 abbrev pub former_answer : Wording → List ℕ → ℕ → ℕ → Case → Report
-former_answer w bytes room outRoom (cases.Parts places) = answer_by (former_said w (parts_of bytes places) room) outRoom
-former_answer w bytes room outRoom (cases.Wrong offset) = report.Broken offset
-former_answer w bytes room outRoom cases.TooLong = report.TooLong
+former_answer w bytes room out_room (cases.Parts places) = answer_by (former_said w (parts_of bytes places) room) out_room
+former_answer w bytes room out_room (cases.Wrong offset) = report.Broken offset
+former_answer w bytes room out_room cases.TooLong = report.TooLong
 
 abbrev pub former_output : Wording → List ℕ → ℕ → List ℕ → Case → List ℕ
 former_output w bytes room out (cases.Parts places) = output_by (former_said w (parts_of bytes places) room) out
@@ -75,15 +75,15 @@ pub record PresentUnmoved : Type 0 where
   -- where it lacks room
   pub walks :
       (code members : List ℕ) → AreBytes code → length code ≤ 2 ^ 48 → (count leader fault room : ℕ) →
-      walkAnswer (block_walk code members count leader fault room) ≡ walkAnswer (former_walk code members count leader fault room)
+      walk_answer (block_walk code members count leader fault room) ≡ walk_answer (former_walk code members count leader fault room)
   -- what is said of parts with such a code, in any wording
   pub said :
       (w : Wording) (p : Parts) → AreBytes p.code → length p.code ≤ 2 ^ 48 → (room : ℕ) →
       said_in (manner_of Document w) p room ≡ former_said w p room
   -- and so of every case, whatever is lent: the answer, and the output at exit
   pub answers :
-      (w : Wording) (bytes : List ℕ) → AreBytes bytes → (room outRoom : ℕ) →
-      report_in (manner_of Document w) bytes room outRoom ≡ former_answer w bytes room outRoom (case_of bytes)
+      (w : Wording) (bytes : List ℕ) → AreBytes bytes → (room out_room : ℕ) →
+      report_in (manner_of Document w) bytes room out_room ≡ former_answer w bytes room out_room (case_of bytes)
   pub outputs :
       (w : Wording) (bytes : List ℕ) → AreBytes bytes → (room : ℕ) (out : List ℕ) →
       reported_by (manner_of Document w) bytes room out ≡ former_output w bytes room out (case_of bytes)

@@ -15,7 +15,7 @@ use Rattle.effects.specs.Lookup.{lookup_in}
 use Rattle.effects.specs.Rows.{row_of}
 use Rattle.effects.specs.declared.Model.TheVariants.{Document, Full}
 use Rattle.walk.specs.Room.{lacks, fits, block_walk, block_walk_in}
-use Rattle.walk.specs.Walk.{notModelled, cells, done, failed, walk}
+use Rattle.walk.specs.Walk.{not_modelled, cells, done, failed, walk}
 use Rattle.fault.specs.Decoding.{decoded}
 use Rattle.fault.specs.declared.Action.{Action}
 use Rattle.fault.specs.declared.Fault.TheVariants.{Failed}
@@ -52,10 +52,10 @@ pub record GivesUp (p : Parts) : Type 0 where
   pub scan : ℕ
   pub count : ℕ
   pub index : ℕ
-  pub decodes : decoded p.code p.members p.memberCount p.fault ≡ Failed action depth
+  pub decodes : decoded p.code p.members p.member_count p.fault ≡ Failed action depth
   pub leads : scan_of p ≡ Leader leader scan
   pub walks :
-      walk cells row_of (lookup_in p.members p.memberCount) p.code p.fault leader ≡ failed count index notModelled
+      walk cells row_of (lookup_in p.members p.member_count) p.code p.fault leader ≡ failed count index not_modelled
 
 -- the two manners in one wording
 abbrev pub old : Wording → Manner
@@ -97,7 +97,7 @@ SilentAlike =
 pub record SameAction (w : Wording) (p : Parts) (message message' : List ℕ) (kind kind' scan scan' : ℕ) : Type 0 where
   pub action : Action
   pub depth : ℕ
-  pub decodes : decoded p.code p.members p.memberCount p.fault ≡ Failed action depth
+  pub decodes : decoded p.code p.members p.member_count p.fault ≡ Failed action depth
   pub cause : Slot
   pub cause' : Slot
   pub words : message ≡ message_of w p action cause
@@ -134,18 +134,18 @@ ReportsAlike =
 -- answer 1
 abbrev pub NoMessageAlike : Type 0
 NoMessageAlike =
-    (one other : Manner) (bytes : List ℕ) (room room' outRoom outRoom' : ℕ) →
-    report_in one bytes room outRoom ≡ NoMessage → report_in other bytes room' outRoom' ≡ NoMessage
+    (one other : Manner) (bytes : List ℕ) (room room' out_room out_room' : ℕ) →
+    report_in one bytes room out_room ≡ NoMessage → report_in other bytes room' out_room' ≡ NoMessage
 
 -- answer 3, with as many cells lent
 abbrev pub NoRoomAlike : Type 0
 NoRoomAlike =
-    (w : Wording) (bytes : List ℕ) (room outRoom outRoom' index : ℕ) →
-    report_in (old w) bytes room outRoom ≡ NoRoom index → report_in (full w) bytes room outRoom' ≡ NoRoom index
+    (w : Wording) (bytes : List ℕ) (room out_room out_room' index : ℕ) →
+    report_in (old w) bytes room out_room ≡ NoRoom index → report_in (full w) bytes room out_room' ≡ NoRoom index
 
 -- the answer and the output are the same in both models, whatever is lent
 pub record SameInBoth (w : Wording) (bytes : List ℕ) : Type 0 where
-  pub answers : (room outRoom : ℕ) → report_in (full w) bytes room outRoom ≡ report_in (old w) bytes room outRoom
+  pub answers : (room out_room : ℕ) → report_in (full w) bytes room out_room ≡ report_in (old w) bytes room out_room
   pub outputs : (room : ℕ) (out : List ℕ) → reported_by (full w) bytes room out ≡ reported_by (old w) bytes room out
 
 -- every case but those on whose parts document 01's model gives up; one that is broken or too long has no parts

@@ -82,10 +82,10 @@ module _ (file : List ℕ) (count room : ℕ) where
 
   -- and the reader goes on to the next
   pub goes_on :
-      (table table' : List ℕ) (at at' number : ℕ) (behind_wide behindWide' : Bool) → table' ≡ table → at' ≡ at → behindWide' ≡ behind_wide →
+      (table table' : List ℕ) (at at' number : ℕ) (behind_wide behind_wide' : Bool) → table' ≡ table → at' ≡ at → behind_wide' ≡ behind_wide →
       Filling table at (suc number) (count - number - 1) behind_wide →
-      Filling table' at' (number + 1) (count - (number + 1)) behindWide'
-  goes_on table table' at at' number behind_wide behindWide' tables places flags so =
+      Filling table' at' (number + 1) (count - (number + 1)) behind_wide'
+  goes_on table table' at at' number behind_wide behind_wide' tables places flags so =
       let one : number + 1 ≡ suc number = omega arith in
       let less : count - suc number ≡ count - number - 1 = omega arith in
       rw (tables, places, flags, one, less) so

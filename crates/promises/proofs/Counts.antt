@@ -33,20 +33,20 @@ as_they_are (NoOutput size) small = refl
 as_they_are TooLong small = refl
 as_they_are NoWording small = refl
 
-module _ (model : Model) (bytes : List ℕ) (are : AreBytes bytes) (room outRoom : ℕ) where
-  named_small : (name : Named) → Small (answer_named name model bytes room outRoom)
-  named_small (Known wording) = counts_small (manner_of model wording) bytes are room outRoom
+module _ (model : Model) (bytes : List ℕ) (are : AreBytes bytes) (room out_room : ℕ) where
+  named_small : (name : Named) → Small (answer_named name model bytes room out_room)
+  named_small (Known wording) = counts_small (manner_of model wording) bytes are room out_room
   named_small Unknown = tt
 
-  worded_small : (number : ℕ) → Small (report_worded model number bytes room outRoom)
+  worded_small : (number : ℕ) → Small (report_worded model number bytes room out_room)
   unfolding report_worded
   worded_small number = named_small (wording_by number)
 
 pub c_counts : CCounts
 c_counts =
     record {
-      in_manner = λ manner bytes are room outRoom.
-          as_they_are (report_in manner bytes room outRoom) (counts_small manner bytes are room outRoom);
-      worded = λ model number bytes are room outRoom.
-          as_they_are (report_worded model number bytes room outRoom) (worded_small model bytes are room outRoom number);
+      in_manner = λ manner bytes are room out_room.
+          as_they_are (report_in manner bytes room out_room) (counts_small manner bytes are room out_room);
+      worded = λ model number bytes are room out_room.
+          as_they_are (report_worded model number bytes room out_room) (worded_small model bytes are room out_room number);
     }

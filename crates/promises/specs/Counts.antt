@@ -19,9 +19,9 @@ plainly numbers =
 pub record CCounts : Type 0 where
   -- `korsepal_report`, `korsepal_report_full`
   pub in_manner :
-      (manner : Manner) (bytes : List ℕ) → AreBytes bytes → (room outRoom : ℕ) →
-      report_numbers (report_in manner bytes room outRoom) ≡ plainly (numbered (report_in manner bytes room outRoom))
+      (manner : Manner) (bytes : List ℕ) → AreBytes bytes → (room out_room : ℕ) →
+      report_numbers (report_in manner bytes room out_room) ≡ plainly (numbered (report_in manner bytes room out_room))
   -- `korsepal_report_in`
   pub worded :
-      (model : Model) (number : ℕ) (bytes : List ℕ) → AreBytes bytes → (room outRoom : ℕ) →
-      report_numbers (report_worded model number bytes room outRoom) ≡ plainly (numbered (report_worded model number bytes room outRoom))
+      (model : Model) (number : ℕ) (bytes : List ℕ) → AreBytes bytes → (room out_room : ℕ) →
+      report_numbers (report_worded model number bytes room out_room) ≡ plainly (numbered (report_worded model number bytes room out_room))

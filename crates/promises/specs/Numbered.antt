@@ -4,12 +4,12 @@
 -- proofs/Numbered.antt has its proof.
 -- Assumes nothing.
 use Rattle.std.specs.Prelude.{ℕ, ◌≡◌, List}
-use Rattle.walk.specs.Room.{numbered as walkNumbered}
-use Rattle.bytecode.specs.Length.{numbered as lengthNumbered}
-use Rattle.casefile.specs.Whole.{numbered as caseNumbered}
-use Rattle.judging.specs.Judged.{numbered as strictNumbered}
-use Rattle.leader.specs.Scan.{numbered as leaderNumbered}
-use Rattle.answer.specs.Answer.{numbered as reportNumbered}
+use Rattle.walk.specs.Room.{numbered as walk_numbered}
+use Rattle.bytecode.specs.Length.{numbered as length_numbered}
+use Rattle.casefile.specs.Whole.{numbered as case_numbered}
+use Rattle.judging.specs.Judged.{numbered as strict_numbered}
+use Rattle.leader.specs.Scan.{numbered as leader_numbered}
+use Rattle.answer.specs.Answer.{numbered as report_numbered}
 
 -- an answer is the wanted one exactly when its numbers are the wanted one's
 pub record SamePromise {A : Type 0} (numbered : A → List ℕ) : Type 0 where
@@ -18,14 +18,14 @@ pub record SamePromise {A : Type 0} (numbered : A → List ℕ) : Type 0 where
 
 pub record PromisesNumbered : Type 0 where
   -- `instruction_length`, `length_by`
-  pub length : SamePromise lengthNumbered
+  pub length : SamePromise length_numbered
   -- `block_leader`
-  pub leader : SamePromise leaderNumbered
+  pub leader : SamePromise leader_numbered
   -- `parse_type`, `parse_method`
-  pub strict : SamePromise strictNumbered
+  pub strict : SamePromise strict_numbered
   -- `read_case`
-  pub case : SamePromise caseNumbered
+  pub case : SamePromise case_numbered
   -- `simulate_block`, `simulate_block_in`
-  pub walk : SamePromise walkNumbered
+  pub walk : SamePromise walk_numbered
   -- `build_message`, `report_parts`, both in a manner, and `build_message_worded`
-  pub report : SamePromise reportNumbered
+  pub report : SamePromise report_numbered

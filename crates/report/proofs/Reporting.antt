@@ -23,24 +23,24 @@ module _ (manner : Manner) (p : Parts) (room : ℕ) (out : List ℕ) where
   abbrev pub Reports : Report → List ℕ → Type 0
   Reports = Delivered (said_in manner p room) out
 
-  pub is_silent : decoded p.code p.members p.memberCount p.fault ≡ Nothing → Reports report.NoMessage out
+  pub is_silent : decoded p.code p.members p.member_count p.fault ≡ Nothing → Reports report.NoMessage out
   unfolding said_in
   is_silent e = record { answers = rw e; leaves = rw e }
 
   module _ (action : Action) (depth : ℕ) where
     pub is_roomless :
-        (index : ℕ) → decoded p.code p.members p.memberCount p.fault ≡ Failed action depth →
-        traced manner.model p.code p.members p.memberCount p.fault depth room ≡ NoRoom index →
+        (index : ℕ) → decoded p.code p.members p.member_count p.fault ≡ Failed action depth →
+        traced manner.model p.code p.members p.member_count p.fault depth room ≡ NoRoom index →
         Reports (report.NoRoom index) out
     unfolding said_in traced
     is_roomless index e t = record { answers = rw (e, t); leaves = rw (e, t) }
 
     pub is_said :
-        (scan block : ℕ) (cause : Slot) → decoded p.code p.members p.memberCount p.fault ≡ Failed action depth →
-        traced manner.model p.code p.members p.memberCount p.fault depth room ≡ Traced scan block cause →
+        (scan block : ℕ) (cause : Slot) → decoded p.code p.members p.member_count p.fault ≡ Failed action depth →
+        traced manner.model p.code p.members p.member_count p.fault depth room ≡ Traced scan block cause →
         (instance : Bool) → instance ≡ is_instance p.flags → (answer : Report) (left : List ℕ) →
         Delivered
-        (said (message_text manner.wording p.members p.memberCount action cause p.records p.recordCount p.signature instance)
+        (said (message_text manner.wording p.members p.member_count action cause p.records p.record_count p.signature instance)
         (kind_of cause) scan block)
         out answer left →
         Reports answer left

@@ -52,19 +52,19 @@ full_manner = manner_of Full ByteBoolean
 
 unfoldable pub message_of : Wording → Parts → Action → Slot → List ℕ
 message_of wording p action cause =
-    message_text wording p.members p.memberCount action cause p.records p.recordCount p.signature (is_instance p.flags)
+    message_text wording p.members p.member_count action cause p.records p.record_count p.signature (is_instance p.flags)
 
 -- parts in the order of the code's parameters
 abbrev pub parts_by : ℕ → ℕ → List ℕ → List ℕ → List ℕ → ℕ → List ℕ → ℕ → Parts
-parts_by flags fault code signature members memberCount records recordCount =
+parts_by flags fault code signature members member_count records record_count =
     record {
       flags = flags;
       fault = fault;
       code = code;
       signature = signature;
-      memberCount = memberCount;
+      member_count = member_count;
       members = members;
-      recordCount = recordCount;
+      record_count = record_count;
       records = records;
     }
 
@@ -75,7 +75,7 @@ scan_of p = block_leader length_of [] p.code p.fault
 -- the cause of the fault in a model, whose reference lies at a depth, with so many cells lent: over what a scan answered, and over
 -- the report's
 abbrev pub traced_from : Model → Scan → Parts → ℕ → ℕ → Trace
-traced_from model scan p depth room = traced_by model p.code p.members p.memberCount p.fault depth room scan
+traced_from model scan p depth room = traced_by model p.code p.members p.member_count p.fault depth room scan
 
 abbrev pub traced_in : Model → Parts → ℕ → ℕ → Trace
 traced_in model p depth room = traced_from model (scan_of p) p depth room
@@ -93,7 +93,7 @@ said_at manner p room fault = said_from manner (scan_of p) p room fault
 
 -- of the parts of a case, with so many cells lent: in a manner, and in document 01's
 unfoldable pub said_in : Manner → Parts → ℕ → Said
-said_in manner p room = said_at manner p room (decoded p.code p.members p.memberCount p.fault)
+said_in manner p room = said_at manner p room (decoded p.code p.members p.member_count p.fault)
 
 abbrev pub said_of : Parts → ℕ → Said
 said_of p room = said_in document_manner p room
@@ -101,9 +101,9 @@ said_of p room = said_in document_manner p room
 -- ---- a whole case: "Tested in the order 5, 2, 1, 3, 4."
 
 abbrev pub answer_of : Manner → List ℕ → ℕ → ℕ → Case → Report
-answer_of manner bytes room outRoom (cases.Parts places) = answer_by (said_in manner (parts_of bytes places) room) outRoom
-answer_of manner bytes room outRoom (cases.Wrong offset) = report.Broken offset
-answer_of manner bytes room outRoom cases.TooLong = report.TooLong
+answer_of manner bytes room out_room (cases.Parts places) = answer_by (said_in manner (parts_of bytes places) room) out_room
+answer_of manner bytes room out_room (cases.Wrong offset) = report.Broken offset
+answer_of manner bytes room out_room cases.TooLong = report.TooLong
 
 abbrev pub output_of : Manner → List ℕ → ℕ → List ℕ → Case → List ℕ
 output_of manner bytes room out (cases.Parts places) = output_by (said_in manner (parts_of bytes places) room) out
@@ -112,14 +112,14 @@ output_of manner bytes room out cases.TooLong = out
 
 -- the bytes of a case, and the cells and the output that are lent: the answer and the output, in a manner
 unfoldable pub report_in : Manner → List ℕ → ℕ → ℕ → Report
-report_in manner bytes room outRoom = answer_of manner bytes room outRoom (case_of bytes)
+report_in manner bytes room out_room = answer_of manner bytes room out_room (case_of bytes)
 
 unfoldable pub reported_by : Manner → List ℕ → ℕ → List ℕ → List ℕ
 reported_by manner bytes room out = output_of manner bytes room out (case_of bytes)
 
 -- and in document 01's
 abbrev pub report_of : List ℕ → ℕ → ℕ → Report
-report_of bytes room outRoom = report_in document_manner bytes room outRoom
+report_of bytes room out_room = report_in document_manner bytes room out_room
 
 abbrev pub reported_in : List ℕ → ℕ → List ℕ → List ℕ
 reported_in bytes room out = reported_by document_manner bytes room out
@@ -127,15 +127,15 @@ reported_in bytes room out = reported_by document_manner bytes room out
 -- ---- the wording by its number: "11 for a wording other than 1 or 2, tested first"
 
 abbrev pub answer_named : Named → Model → List ℕ → ℕ → ℕ → Report
-answer_named (Known wording) model bytes room outRoom = report_in (manner_of model wording) bytes room outRoom
-answer_named Unknown model bytes room outRoom = report.NoWording
+answer_named (Known wording) model bytes room out_room = report_in (manner_of model wording) bytes room out_room
+answer_named Unknown model bytes room out_room = report.NoWording
 
 abbrev pub output_named : Named → Model → List ℕ → ℕ → List ℕ → List ℕ
 output_named (Known wording) model bytes room out = reported_by (manner_of model wording) bytes room out
 output_named Unknown model bytes room out = out
 
 unfoldable pub report_worded : Model → ℕ → List ℕ → ℕ → ℕ → Report
-report_worded model number bytes room outRoom = answer_named (wording_by number) model bytes room outRoom
+report_worded model number bytes room out_room = answer_named (wording_by number) model bytes room out_room
 
 unfoldable pub reported_worded : Model → ℕ → List ℕ → ℕ → List ℕ → List ℕ
 reported_worded model number bytes room out = output_named (wording_by number) model bytes room out

@@ -6,7 +6,7 @@ use mathlib.Core.Bool.{Bool, true}
 use lib.Dec.{T, leb, leb→le}
 use Rattle.basics.proofs.Every.{every_at}
 use Rattle.jvms.specs.Stack.{key_count}
-use Rattle.effects.specs.Rows.{Row, unmodelled, opaque, aload, aloadFar, aload_of, carries, keeps, gets, calls, puts, makes}
+use Rattle.effects.specs.Rows.{Row, unmodelled, opaque, aload, aload_far, aload_of, carries, keeps, gets, calls, puts, makes}
 use Rattle.effects.specs.Rows.{row_of, added_row, widened_row, full_row_of, rows_of}
 use Rattle.effects.specs.declared.Model.{Model}
 use Rattle.effects.specs.declared.Model.TheVariants.{Document, Full}
@@ -18,7 +18,7 @@ abbrev few_taken : Row → Bool
 few_taken unmodelled = true
 few_taken (opaque takes gives) = true
 few_taken aload = true
-few_taken aloadFar = true
+few_taken aload_far = true
 few_taken (aload_of local) = true
 few_taken (carries takes places) = true
 few_taken keeps = true

@@ -6,7 +6,7 @@ use native.Mathlib.Omega.{arith}
 use mathlib.Core.Path.{◌≡◌, refl, ◌∙◌, sym, ap}
 use mathlib.Core.List.{List, [], ◌∷◌}
 use borrow.Author.Tests.{lt-ltb, le-ltb}
-use Rattle.effects.specs.Rows.{Row, unmodelled, opaque, aload, aloadFar, aload_of, carries, keeps, gets, calls, puts, makes}
+use Rattle.effects.specs.Rows.{Row, unmodelled, opaque, aload, aload_far, aload_of, carries, keeps, gets, calls, puts, makes}
 use Rattle.effects.specs.Rows.{or_row, row_of, added_row, widened_row, wide_row, full_row_of, rows_of}
 use Rattle.effects.specs.declared.Model.{Model}
 use Rattle.effects.specs.declared.Model.TheVariants.{Document, Full}
@@ -35,7 +35,7 @@ or_none : (row : Row) → or_row row unmodelled ≡ row
 or_none unmodelled = refl
 or_none (opaque takes gives) = refl
 or_none aload = refl
-or_none aloadFar = refl
+or_none aload_far = refl
 or_none (aload_of local) = refl
 or_none (carries takes places) = refl
 or_none keeps = refl

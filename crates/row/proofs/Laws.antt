@@ -2,7 +2,7 @@
 -- Assumes nothing.
 use mathlib.Core.Path.{◌≡◌, refl, ◌∙◌, sym, ap}
 use Rattle.basics.specs.Choice.{pick}
-use Rattle.effects.specs.Rows.{Row, unmodelled, opaque, aload, aloadFar, aload_of, carries, keeps, gets, calls, puts, makes}
+use Rattle.effects.specs.Rows.{Row, unmodelled, opaque, aload, aload_far, aload_of, carries, keeps, gets, calls, puts, makes}
 use Rattle.row.specs.Code.{row_from}
 use Rattle.row.specs.Laws.{RowFromInjective}
 use Rattle.row.specs.declared.Row.{Row as CodeRow}
@@ -13,7 +13,7 @@ abbrev code_of : Row → CodeRow
 code_of unmodelled = Unmodelled
 code_of (opaque takes gives) = Opaque takes gives
 code_of aload = Aload
-code_of aloadFar = AloadFar
+code_of aload_far = AloadFar
 code_of (aload_of local) = AloadOf local
 code_of (carries takes places) = pick (is_swap takes places) Swap (Copies (count_of takes places) (under_of takes places))
 code_of keeps = Keeps

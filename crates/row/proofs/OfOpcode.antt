@@ -9,7 +9,7 @@ use lib.Dec.{T, eqb}
 use lib.ListN.{get_or, drop}
 use types.Run.{OneOf}
 use Rattle.basics.specs.Choice.{pick, both, same_list}
-use Rattle.effects.specs.Rows.{Row, unmodelled, opaque, aload, aloadFar, aload_of, carries, keeps, gets, calls, puts, makes}
+use Rattle.effects.specs.Rows.{Row, unmodelled, opaque, aload, aload_far, aload_of, carries, keeps, gets, calls, puts, makes}
 use Rattle.basics.proofs.Every.{both_first, both_second, every, every_from}
 use Rattle.basics.proofs.Keys.{Unkeyed, or_key, every_unkeyed}
 use Rattle.basics.proofs.Same.{are_same}
@@ -25,7 +25,7 @@ number (gets takes) = 6 ∷ takes ∷ []
 number (calls takes) = 7 ∷ takes ∷ []
 number (puts takes) = 8 ∷ takes ∷ []
 number makes = 9 ∷ []
-number aloadFar = 10 ∷ []
+number aload_far = 10 ∷ []
 
 abbrev numbered : List ℕ → Row
 numbered [] = unmodelled
@@ -39,7 +39,7 @@ numbered (k ∷ l) =
     (pick (eqb k 7) (calls (get_or l 0 0))
     (pick (eqb k 8) (puts (get_or l 0 0))
     (pick (eqb k 9) makes
-    (pick (eqb k 10) aloadFar
+    (pick (eqb k 10) aload_far
     unmodelled)))))))))
 
 back : (row : Row) → numbered (number row) ≡ row
@@ -53,7 +53,7 @@ back (gets takes) = refl
 back (calls takes) = refl
 back (puts takes) = refl
 back makes = refl
-back aloadFar = refl
+back aload_far = refl
 
 -- rows: a table
 module _ (rows : ℕ → Row) where

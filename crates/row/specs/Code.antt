@@ -1,7 +1,7 @@
 -- What the code's rows stand for: the rows of the two models (crates/effects/specs/Rows.antt).
 -- Assumes nothing.
 use Rattle.std.specs.Prelude.{ℕ, zero, suc, ◌+◌, ◌≤◌, List, [], ◌∷◌, ◌++◌}
-use Rattle.effects.specs.Rows.{Row, unmodelled, opaque, aload, aloadFar, aload_of, carries, keeps, gets, calls, puts, makes}
+use Rattle.effects.specs.Rows.{Row, unmodelled, opaque, aload, aload_far, aload_of, carries, keeps, gets, calls, puts, makes}
 use Rattle.row.specs.declared.Row.{Row as CodeRow}
 use Rattle.row.specs.declared.Row.TheVariants.{Unmodelled, Opaque, Aload, AloadFar, AloadOf, Copies, Swap, Keeps, Gets, Calls, Puts, Makes}
 
@@ -21,7 +21,7 @@ abbrev pub row_from : CodeRow → Row
 row_from Unmodelled = unmodelled
 row_from (Opaque takes gives) = opaque takes gives
 row_from Aload = aload
-row_from AloadFar = aloadFar
+row_from AloadFar = aload_far
 row_from (AloadOf local) = aload_of local
 row_from (Copies count under) = carries (count + under) (copy_places count under)
 row_from Swap = carries 2 swap_places

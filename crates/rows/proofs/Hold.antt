@@ -19,7 +19,7 @@ use Rattle.text.specs.Writing.{over}
 use Rattle.classname.specs.ClassName.{dot_of, dotted, class_name}
 use Rattle.names.specs.Names.{base_names, base_name, element_name, bracket_pairs, type_name, type_names, commaed, joined, parameter_names}
 use Rattle.jletter.specs.Letter.{is_base}
-use Rattle.jtype.specs.OneType.{brackets as strictBrackets, unnamed_type, element, type_in, type_at}
+use Rattle.jtype.specs.OneType.{brackets as strict_brackets, unnamed_type, element, type_in, type_at}
 use Rattle.refusal.specs.Refusal.{number_of}
 use Rattle.jdescriptor.specs.Answer.{answer}
 use Rattle.judging.specs.Judged.{numbered}
@@ -55,7 +55,7 @@ unfolding rows
     block_leader answered instructions scan_from scan_count leaders_of leaders_at branch_of target entry_targets switch_targets greatest up_to
     parameters judged slots_of types_of types_at types_from field_type_at type_behind brackets first_from first_in type_slots return_slots closing slots_behind
     parameter_names joined commaed type_names type_name element_name base_name base_names bracket_pairs class_name dotted dot_of
-    numbered number_of answer type_reading method_reading parameters_at return_at type_at type_in strictBrackets element is_base unnamed_type
+    numbered number_of answer type_reading method_reading parameters_at return_at type_at type_in strict_brackets element is_base unnamed_type
     reported report_in reported_by report_worded reported_worded case_of places_in tables_at text_at number_at number_from run_by members_then records_then parts_of
     said_in decoded depth_of rule_of action_of constructs lookup_in member_found member_at text_part after_text class_of name_of
     descriptor_of traced block_walk_in completed completed_from walk walk_from step row_of added_row widened_row full_row_of field_slots fixed_length slot_from

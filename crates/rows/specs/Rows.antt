@@ -150,7 +150,7 @@ pub data Row : Type 0 where
 
 -- in document 01's manner
 abbrev pub reports : List ℕ → ℕ → ℕ → List ℕ → Row
-reports bytes room outRoom told = reports_in document_manner bytes room outRoom told
+reports bytes room out_room told = reports_in document_manner bytes room out_room told
 
 abbrev pub writes : List ℕ → ℕ → List ℕ → Row
 writes bytes room message = writes_in document_manner bytes room message
@@ -163,9 +163,9 @@ Holds (names text named) = parameter_names text ≡ named
 Holds (returns text slots) = return_slots text ≡ slots
 Holds (method_reads text room told) = numbered (answer (method_reading text) room) ≡ told
 Holds (type_reads text room told) = numbered (answer (type_reading text) room) ≡ told
-Holds (reports_in manner bytes room outRoom told) = reported (report_in manner bytes room outRoom) ≡ told
+Holds (reports_in manner bytes room out_room told) = reported (report_in manner bytes room out_room) ≡ told
 Holds (writes_in manner bytes room message) = reported_by manner bytes room (replicate (length message) 0) ≡ message
-Holds (reports_worded model number bytes room outRoom told) = reported (report_worded model number bytes room outRoom) ≡ told
+Holds (reports_worded model number bytes room out_room told) = reported (report_worded model number bytes room out_room) ≡ told
 Holds (writes_worded model number bytes room message) = reported_worded model number bytes room (replicate (length message) 0) ≡ message
 
 infixr 5 ◌&◌

@@ -9,7 +9,7 @@ use Rattle.basics.specs.Choice.{between}
 use Rattle.basics.proofs.Choice.{chosen}
 use Rattle.lookup.specs.Lookup.{member_found}
 use Rattle.effects.specs.Lookup.{known_by, lookup_in}
-use Rattle.effects.specs.Depth.{Rule, none, fixed, reads, writes, invokes as invokesRule, depth_by, rule_of, depth_of}
+use Rattle.effects.specs.Depth.{Rule, none, fixed, reads, writes, invokes as invokes_rule, depth_by, rule_of, depth_of}
 use Rattle.fault.specs.Decoding.{invokes, action_of, constructs, decoded}
 use Rattle.fault.specs.declared.Action.{Action}
 use Rattle.fault.specs.declared.Action.TheVariants.{ReadField, AssignField, Invoke, LoadArray, StoreArray, ReadLength, ThrowException, EnterBlock, ExitBlock}
@@ -28,7 +28,7 @@ module _ (one all : List ℕ) (count whole index : ℕ)
     depth_alike (fixed depth) = refl
     depth_alike reads = rw (cites, known_alike 0)
     depth_alike writes = rw (cites, known_alike 0)
-    depth_alike invokesRule = rw (cites, known_alike 1)
+    depth_alike invokes_rule = rw (cites, known_alike 1)
 
     pub fault_alike : decoded code one count fault ≡ decoded code all whole fault
     unfolding decoded depth_of constructs

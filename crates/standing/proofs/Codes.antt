@@ -29,8 +29,8 @@ module _ (file : List ℕ) (names : ℕ → Name) where
   code_stands limit at code end is =
       let tabled : ℕ → ℕ → Format Code = λ start size. and_then (code_tables_format names limit) (λ tables. done (code_of start size limit tables)) in
       let sized : Format Code = text 4 limit (λ size bytes. between 1 65535 size) tabled in
-      let stack = number_was file at 2 limit any (λ maxStack. u2 limit any (λ maxLocals. sized)) is in
-      let slots = number_was file (at + 2) 2 limit any (λ maxLocals. sized) stack.2 in
+      let stack = number_was file at 2 limit any (λ max_stack. u2 limit any (λ max_locals. sized)) is in
+      let slots = number_was file (at + 2) 2 limit any (λ max_locals. sized) stack.2 in
       let bytes = text_was file (at + 2 + 2) 4 limit (λ size bytes. between 1 65535 size) tabled slots.2 in
       let start = at + 2 + 2 + 4 in
       let size = number_at 4 file (at + 2 + 2) in

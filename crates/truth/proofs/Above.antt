@@ -13,7 +13,7 @@ use Rattle.basics.proofs.Each.{each_length, each_take, each_append}
 use Rattle.jvms.specs.Machine.{State, cited_at, local_at, below, topmost, run}
 use Rattle.jvms.specs.Stack.{Local, indexed, far, numbered, Entry, unlisted, does, either_of, loads, stores, increments, throws, Cited, key_at, entry_at}
 use Rattle.effects.specs.Agreement.{taken_by, Carried, Pushed, local_of, Details}
-use Rattle.effects.specs.Rows.{Row, unmodelled, opaque, aload, aloadFar, aload_of, carries, keeps, gets, calls, puts, makes}
+use Rattle.effects.specs.Rows.{Row, unmodelled, opaque, aload, aload_far, aload_of, carries, keeps, gets, calls, puts, makes}
 use Rattle.walk.specs.Walk.{Push}
 use Rattle.truth.specs.Relation.{Held, Setting, own_by, own, Speaks, Given}
 use Rattle.truth.proofs.Carried.{held_carried}
@@ -95,7 +95,7 @@ module _ {A Val : Type 0} (s : Setting A Val) where
     held_pushed list (opaque taken n) put a details enough e = held_blanks n put e
     held_pushed list aload put a details enough e =
         held_mark (byte_at s.code (st.pc + 1)) indexed put (omega (arith, given.bytes (st.pc + 1))) refl details e
-    held_pushed list aloadFar put a details enough e =
+    held_pushed list aload_far put a details enough e =
         held_mark (u16_at s.code (st.pc + 2)) far put (u16_below s.code given.bytes (st.pc + 2)) refl details e
     held_pushed list (aload_of local) put a details enough e =
         held_mark local (numbered local) put (omega (arith, details.1)) refl details.0 e

@@ -29,7 +29,7 @@ use Rattle.truth.proofs.Walked.{walk_translates}
 
 module _ {rule : LengthRule} {handlers : List ℕ} (f : Findings) (pool : Pool) (p : PremisesBy rule handlers f pool) where
   abbrev lookup : Lookup
-  lookup = lookup_in f.members f.memberCount
+  lookup = lookup_in f.members f.member_count
 
   -- the walk without room
   fits :

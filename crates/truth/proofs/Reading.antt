@@ -20,17 +20,17 @@ use Rattle.descriptors.specs.Lenient.{closing_at}
 use Rattle.descriptors.proofs.Agree.{lenient_agrees}
 use Rattle.effects.specs.Agreement.{taken_by, Details}
 use Rattle.effects.specs.Lookup.{Known, missing, known, Lookup}
-use Rattle.effects.specs.Rows.{Row, unmodelled, opaque, aload, aloadFar, aload_of, carries, keeps, gets, calls, puts, makes}
-use Rattle.walk.specs.Walk.{notModelled, cut, Marks, Push, blanks, load, carried, unread, Effect, fails, does, getting, putting, making, calling, effect_by, made, applied}
+use Rattle.effects.specs.Rows.{Row, unmodelled, opaque, aload, aload_far, aload_of, carries, keeps, gets, calls, puts, makes}
+use Rattle.walk.specs.Walk.{not_modelled, cut, Marks, Push, blanks, load, carried, unread, Effect, fails, does, getting, putting, making, calling, effect_by, made, applied}
 use Rattle.truth.specs.Condition.{Described}
 use Rattle.walk.proofs.Step.{refused_not_made}
 
 -- what a row pushes
 abbrev pub push_for : Pool → List ℕ → ℕ → Row → Push
-push_for pool code pc unmodelled = unread notModelled
+push_for pool code pc unmodelled = unread not_modelled
 push_for pool code pc (opaque taken given) = blanks given
 push_for pool code pc aload = load (byte_at code (pc + 1))
-push_for pool code pc aloadFar = load (u16_at code (pc + 2))
+push_for pool code pc aload_far = load (u16_at code (pc + 2))
 push_for pool code pc (aload_of local) = load local
 push_for pool code pc (carries taken places) = carried places
 push_for pool code pc keeps = blanks 0
@@ -120,7 +120,7 @@ module _ (lookup : Lookup) (pool : Pool) (code : List ℕ) (pc : ℕ) (told : De
     making_makes dimensions e = by_test (eqb dimensions 0) e
       where
         by_test :
-            (none : Bool) → Makes (pick none (fails notModelled) (does dimensions (blanks 1))) →
+            (none : Bool) → Makes (pick none (fails not_modelled) (does dimensions (blanks 1))) →
             Makes (does dimensions (blanks 1))
         by_test true q = refused_not_made q
         by_test false q = q
@@ -132,7 +132,7 @@ module _ (lookup : Lookup) (pool : Pool) (code : List ℕ) (pc : ℕ) (told : De
     effect_read unmodelled details e = refused_not_made e
     effect_read (opaque taken given) details e = e
     effect_read aload details e = uncut_makes (pc + 1) (does 0 (load (byte_at code (pc + 1)))) e
-    effect_read aloadFar details e = uncut_makes (pc + 3) (does 0 (load (u16_at code (pc + 2)))) e
+    effect_read aload_far details e = uncut_makes (pc + 3) (does 0 (load (u16_at code (pc + 2)))) e
     effect_read (aload_of local) details e = e
     effect_read (carries taken places) details e = e
     effect_read keeps details e = e

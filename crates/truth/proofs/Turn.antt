@@ -18,7 +18,7 @@ use Rattle.bytecode.specs.declared.Measure.TheVariants.{Length}
 use Rattle.bytecode.proofs.Measuring.{fits}
 use Rattle.lengths.proofs.Agree.{jvms_length}
 use Rattle.effects.specs.Agreement.{is_modelled, has_effect, taken_by, Pushed, FormAgrees, forms_of, has_form, EffectAgrees}
-use Rattle.effects.specs.Rows.{Row, unmodelled, opaque, aload, aloadFar, aload_of, carries, keeps, gets, calls, puts, makes}
+use Rattle.effects.specs.Rows.{Row, unmodelled, opaque, aload, aload_far, aload_of, carries, keeps, gets, calls, puts, makes}
 use Rattle.walk.specs.Walk.{blanks, effect_by, made, applied}
 use Rattle.truth.specs.Condition.{InBlock, after, Described}
 use Rattle.truth.specs.Relation.{Setting, own, Speaks, Given}
@@ -37,7 +37,7 @@ sort_of : (row : Row) → Sort row
 sort_of unmodelled = missing
 sort_of (opaque taken given) = effective tt tt
 sort_of aload = effective tt tt
-sort_of aloadFar = effective tt tt
+sort_of aload_far = effective tt tt
 sort_of (aload_of local) = effective tt tt
 sort_of (carries taken places) = effective tt tt
 sort_of keeps = keeping

@@ -17,7 +17,7 @@ use Rattle.truth.specs.Translation.{since, HeldWhen, TrueTranslation}
 -- n held when b ran.
 abbrev pub CauseNames : Findings → Pool → Type 1
 CauseNames f pool =
-    (depth b n : ℕ) → depth_of (lookup_in f.members f.memberCount) f.code f.fault ≡ at depth → depth < f.height →
+    (depth b n : ℕ) → depth_of (lookup_in f.members f.member_count) f.code f.fault ≡ at depth → depth < f.height →
     n < 65536 →
     get_or f.stack (f.height - 1 - depth) 0 ≡ cell_of b n →
     (Val : Type 0) (opaque : ℕ → ℕ → Val) (entering : List Val) (locals : ℕ → Val) →

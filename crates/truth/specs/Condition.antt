@@ -43,7 +43,7 @@ pub record Findings : Type 0 where
   pub model : Model
   pub code : List ℕ
   pub members : List ℕ
-  pub memberCount : ℕ
+  pub member_count : ℕ
   pub fault : ℕ
   pub leader : ℕ
   pub height : ℕ
@@ -64,14 +64,14 @@ module _ (rule : LengthRule) (handlers : List ℕ) where
     -- "the block walk succeeds"
     pub room : ℕ
     pub walked :
-        answer_of (block_walk_in f.model f.code f.members f.memberCount f.leader f.fault room)
+        answer_of (block_walk_in f.model f.code f.members f.member_count f.leader f.fault room)
         ≡ Done f.height f.count
     pub left :
-        f.stack ≡ cells_of room (block_walk_in f.model f.code f.members f.memberCount f.leader f.fault room)
+        f.stack ≡ cells_of room (block_walk_in f.model f.code f.members f.member_count f.leader f.fault room)
     -- "the descriptors of walk and fault are well formed"; "demand 3 loses its premise of one parenthesis" (document 02, request 2)
     pub described :
         (pc : ℕ) → InBlock f.code f.leader pc → pc ≤ f.fault →
-        Described (lookup_in f.members f.memberCount) pool f.code pc
+        Described (lookup_in f.members f.member_count) pool f.code pc
 
   pub record ConcludedBy (f : Findings) (pool : Pool) : Type 1 where
     -- "the walk's slot list is a true translation of the block"
@@ -79,7 +79,7 @@ module _ (rule : LengthRule) (handlers : List ℕ) where
     -- "A cause is drawn from the very slot that the faulting instruction would dereference."
     pub very_slot :
         (Val : Type 0) (opaque : ℕ → ℕ → Val) (entering : List Val) (locals : ℕ → Val) (absent : Val) (depth : ℕ) →
-        depth_of (lookup_in f.members f.memberCount) f.code f.fault ≡ at depth → depth < f.height →
+        depth_of (lookup_in f.members f.member_count) f.code f.fault ≡ at depth → depth < f.height →
         target pool f.code (since pool f.code opaque f.leader entering locals f.count)
         ≡ get_or (since pool f.code opaque f.leader entering locals f.count).stack
         (length entering + (f.height - 1 - depth)) absent ∷ []

@@ -31,7 +31,7 @@ worked =
       model = Document;
       code = 0x2a ∷ 0x59 ∷ 0xb4 ∷ 0 ∷ 1 ∷ 0x58 ∷ 0x2b ∷ 0x4b ∷ 0x2b ∷ 0xb8 ∷ 0 ∷ 2 ∷ 0x58 ∷ 0x2b ∷ 0xb6 ∷ 0 ∷ 2 ∷ 0xb1 ∷ [];
       members = members;
-      memberCount = 2;
+      member_count = 2;
       fault = 14;
       leader = 0;
       height = 2;
@@ -49,7 +49,7 @@ full_worked =
       model = Full;
       code = 0x2a ∷ 0x2b ∷ 0x59 ∷ 0x4b ∷ 0x20 ∷ 0x20 ∷ 0x69 ∷ 0x5d ∷ 0xb5 ∷ 0 ∷ 1 ∷ 0xb5 ∷ 0 ∷ 1 ∷ 0xb1 ∷ [];
       members = members;
-      memberCount = 2;
+      member_count = 2;
       fault = 11;
       leader = 0;
       height = 3;
@@ -66,7 +66,7 @@ far_worked =
       model = Full;
       code = 0xc4 ∷ 0x19 ∷ 1 ∷ 44 ∷ 0x01 ∷ 0xc4 ∷ 0x3a ∷ 1 ∷ 44 ∷ 0xc4 ∷ 0x84 ∷ 1 ∷ 43 ∷ 0 ∷ 1 ∷ 0xbe ∷ 0xb1 ∷ [];
       members = members;
-      memberCount = 2;
+      member_count = 2;
       fault = 15;
       leader = 0;
       height = 1;
@@ -89,4 +89,4 @@ NamedRightly f local =
 -- first `wide`
 abbrev pub BeyondDocument : Findings → ℕ → Type 0
 BeyondDocument f count =
-    answer_of (block_walk f.code f.members f.memberCount f.leader f.fault (length f.stack)) ≡ Failed count
+    answer_of (block_walk f.code f.members f.member_count f.leader f.fault (length f.stack)) ≡ Failed count

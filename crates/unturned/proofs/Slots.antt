@@ -17,7 +17,7 @@ use Rattle.descriptor.specs.Readers.{slots_of, judged, parameters, end_of, closi
 use Rattle.descriptor.specs.declared.Params.{Params}
 use Rattle.descriptor.specs.declared.Params.TheVariants.{Unreadable as UnreadableParams}
 use Rattle.descriptor.specs.declared.Slots.TheVariants.{Slots as SlotsOf, Unreadable as UnreadableSlots}
-use Rattle.utf8.specs.Turning.{turned as turnedText}
+use Rattle.utf8.specs.Turning.{turned as turned_text}
 use Rattle.unturned.specs.Unturned.{call_slots, SlotsAsTurned}
 use Rattle.unturned.proofs.Alike.{is_other, Alike, Headed, Start, no_byte, one_byte, strange_bytes, start}
 use Rattle.unturned.proofs.OneType.{past, inside, byte_is, Meet}
@@ -106,7 +106,7 @@ pub slots_as_turned : SlotsAsTurned
 unfolding return_slots closing
 slots_as_turned =
     record {
-      field = λ text right. same_field text (turnedText text) (alike_turned text right);
-      arguments = λ text right. same_call text (turnedText text) (call_alike text (turnedText text) (alike_turned text right));
-      returns = λ text right. same_return text (turnedText text) (call_alike text (turnedText text) (alike_turned text right));
+      field = λ text right. same_field text (turned_text text) (alike_turned text right);
+      arguments = λ text right. same_call text (turned_text text) (call_alike text (turned_text text) (alike_turned text right));
+      returns = λ text right. same_return text (turned_text text) (call_alike text (turned_text text) (alike_turned text right));
     }

@@ -15,8 +15,8 @@ use Rattle.jvms.proofs.Keys.{key_below}
 use Rattle.fixed.specs.Fixed.{size_at}
 use Rattle.effects.specs.Agreement.{is_modelled, Sized}
 use Rattle.effects.specs.Lookup.{Lookup}
-use Rattle.effects.specs.Rows.{Row, unmodelled, opaque, aload, aloadFar, aload_of, carries, keeps, gets, calls, puts, makes}
-use Rattle.walk.specs.Walk.{Reason, past_end, tooLarge, tooFew, Marks, Push, blanks, load, carried, unread, does, effect_by}
+use Rattle.effects.specs.Rows.{Row, unmodelled, opaque, aload, aload_far, aload_of, carries, keeps, gets, calls, puts, makes}
+use Rattle.walk.specs.Walk.{Reason, past_end, too_large, too_few, Marks, Push, blanks, load, carried, unread, does, effect_by}
 use Rattle.walk.specs.Walk.{Made, refused, made, placed, pushed, applied, stops, goes, passes, landed, step}
 
 -- ---- an effect
@@ -40,7 +40,7 @@ module _ {A : Type 0} (marks : Marks A) (pc : ℕ) where
   pushed_is kept list (load local) slots e = by_test (marks.holds pc local) e
     where
       by_test :
-          (b : Bool) → pick b (made (kept ++ marks.mark pc local ∷ [])) (refused tooLarge) ≡ made slots →
+          (b : Bool) → pick b (made (kept ++ marks.mark pc local ∷ [])) (refused too_large) ≡ made slots →
           slots ≡ kept ++ marks.mark pc local ∷ []
       by_test true q = cc
       by_test false q = refused_not_made q
@@ -61,7 +61,7 @@ module _ {A : Type 0} (marks : Marks A) (pc : ℕ) where
       kept = take (length list - takes) list
 
       by_test :
-          (b : Bool) → leb takes (length list) ≡ b → pick b (pushed marks pc kept list push) (refused tooFew) ≡ made slots →
+          (b : Bool) → leb takes (length list) ≡ b → pick b (pushed marks pc kept list push) (refused too_few) ≡ made slots →
           Applied list takes push slots
       by_test true h q = record { enough = leb-true takes (length list) h; left = pushed_is kept list push slots q }
       by_test false h q = refused_not_made q
@@ -108,7 +108,7 @@ module _
   made_modelled unmodelled slots e = refused_not_made e
   made_modelled (opaque takes gives) slots e = tt
   made_modelled aload slots e = tt
-  made_modelled aloadFar slots e = tt
+  made_modelled aload_far slots e = tt
   made_modelled (aload_of local) slots e = tt
   made_modelled (carries takes places) slots e = tt
   made_modelled keeps slots e = tt

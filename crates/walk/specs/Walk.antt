@@ -13,12 +13,12 @@ use Rattle.descriptor.specs.declared.Params.TheVariants.{Read, Unreadable as NoP
 use Rattle.descriptor.specs.declared.Slots.{Slots}
 use Rattle.descriptor.specs.declared.Slots.TheVariants.{Slots as SlotsOf, Unreadable as NoSlots}
 use Rattle.effects.specs.Lookup.{Known, missing, known, Lookup}
-use Rattle.effects.specs.Rows.{Row, unmodelled, opaque, aload, aloadFar, aload_of, carries, keeps, gets, calls, puts, makes}
+use Rattle.effects.specs.Rows.{Row, unmodelled, opaque, aload, aload_far, aload_of, carries, keeps, gets, calls, puts, makes}
 
 -- why a walk fails. A step tests in this order; `overshot` is the walk's own. Dimensions of 0 are `notModelled`, tested where they are
 -- not cut. A `wide` that nothing follows is `notModelled` too.
 pub data Reason : Type 0 where
-  past_end notModelled cut tooLarge missingMember unreadableParameters tooFew unreadableReturn overshot : Reason
+  past_end not_modelled cut too_large missing_member unreadable_parameters too_few unreadable_return overshot : Reason
 
 -- how slots are written: an opaque one that the instruction at an index pushes, the load of a local at an index, and which
 -- loads can be written at all
@@ -45,27 +45,27 @@ pub data Effect : Type 0 where
   does : ℕ → Push → Effect
 
 abbrev pub getting : ℕ → Known → Effect
-getting takes missing = fails missingMember
+getting takes missing = fails missing_member
 getting takes (known descriptor) = does takes (blanks (field_slots descriptor))
 
 abbrev pub putting : ℕ → Known → Effect
-putting takes missing = fails missingMember
+putting takes missing = fails missing_member
 putting takes (known descriptor) = does (takes + field_slots descriptor) (blanks 0)
 
 -- "`multianewarray` (dimension 0 fails)" (document 02, request 1)
 abbrev pub making : ℕ → Effect
-making dimensions = pick (eqb dimensions 0) (fails notModelled) (does dimensions (blanks 1))
+making dimensions = pick (eqb dimensions 0) (fails not_modelled) (does dimensions (blanks 1))
 
 abbrev pub returning : Slots → Push
 returning (SlotsOf n) = blanks n
-returning NoSlots = unread unreadableReturn
+returning NoSlots = unread unreadable_return
 
 abbrev pub called : ℕ → Params → Slots → Effect
 called takes (Read slots end) result = does (takes + slots) (returning result)
-called takes NoParams result = fails unreadableParameters
+called takes NoParams result = fails unreadable_parameters
 
 abbrev pub calling : ℕ → Known → Effect
-calling takes missing = fails missingMember
+calling takes missing = fails missing_member
 calling takes (known descriptor) = called takes (parameters descriptor) (return_slots descriptor)
 
 module _ (lookup : Lookup) (code : List ℕ) (pc : ℕ) where
@@ -75,10 +75,10 @@ module _ (lookup : Lookup) (code : List ℕ) (pc : ℕ) where
   uncut last effect = pick (ltb last (length code)) effect (fails cut)
 
   abbrev pub effect_by : Row → Effect
-  effect_by unmodelled = fails notModelled
+  effect_by unmodelled = fails not_modelled
   effect_by (opaque takes gives) = does takes (blanks gives)
   effect_by aload = uncut (pc + 1) (does 0 (load (byte_at code (pc + 1))))
-  effect_by aloadFar = uncut (pc + 3) (does 0 (load (u16_at code (pc + 2))))
+  effect_by aload_far = uncut (pc + 3) (does 0 (load (u16_at code (pc + 2))))
   effect_by (aload_of local) = does 0 (load local)
   effect_by (carries takes places) = does takes (carried places)
   effect_by keeps = does 0 (blanks 0)
@@ -103,7 +103,7 @@ module _ {A : Type 0} (marks : Marks A) (pc : ℕ) where
   -- kept: what lies below the slots that are taken; slots: all
   abbrev pub pushed : List A → List A → Push → Made A
   pushed kept slots (blanks n) = made (kept ++ replicate n (marks.blank pc))
-  pushed kept slots (load local) = pick (marks.holds pc local) (made (kept ++ marks.mark pc local ∷ [])) (refused tooLarge)
+  pushed kept slots (load local) = pick (marks.holds pc local) (made (kept ++ marks.mark pc local ∷ [])) (refused too_large)
   pushed kept slots (carried places) = made (kept ++ placed places slots)
   pushed kept slots (unread reason) = refused reason
 
@@ -111,7 +111,7 @@ module _ {A : Type 0} (marks : Marks A) (pc : ℕ) where
   abbrev pub applied : Effect → List A → Made A
   applied (fails reason) slots = refused reason
   applied (does takes push) slots =
-      pick (leb takes (length slots)) (pushed (take (length slots - takes) slots) slots push) (refused tooFew)
+      pick (leb takes (length slots)) (pushed (take (length slots - takes) slots) slots push) (refused too_few)
 
 -- An instruction fails, or it is completed and goes on at an index, or it is completed and passes the fault.
 pub data Outcome (A : Type 0) : Type 0 where

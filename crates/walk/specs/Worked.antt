@@ -6,7 +6,7 @@ use Rattle.effects.specs.Lookup.{Lookup, missing}
 use Rattle.effects.specs.Rows.{rows_of}
 use Rattle.effects.specs.declared.Model.{Model}
 use Rattle.effects.specs.declared.Model.TheVariants.{Document, Full}
-use Rattle.walk.specs.Walk.{Reason, notModelled, cut, tooFew, overshot, cells, done, failed, walk}
+use Rattle.walk.specs.Walk.{Reason, not_modelled, cut, too_few, overshot, cells, done, failed, walk}
 
 -- no member is known
 abbrev pub nothing : Lookup
@@ -30,7 +30,7 @@ pub record Worked : Type 0 where
   -- aload_0, aload_1, swap, dup: slots are carried along
   pub carries : Leaves Document (0x2a ∷ 0x2b ∷ 0x5f ∷ 0x59 ∷ []) (cell_of 1 1 ∷ cell_of 0 0 ∷ cell_of 0 0 ∷ []) 4
   -- aload_0, iadd, arraylength: what is not modelled is not completed
-  pub unmodelled : Fails Document (0x2a ∷ 0x60 ∷ 0xbe ∷ []) 2 1 1 notModelled
+  pub unmodelled : Fails Document (0x2a ∷ 0x60 ∷ 0xbe ∷ []) 2 1 1 not_modelled
   -- aload_0, sipush, whose operands hold the fault: it is completed and passes it
   pub passing : Fails Document (0x2a ∷ 0x11 ∷ 0xbe ∷ 0x00 ∷ 0xb1 ∷ []) 2 2 1 overshot
   -- ---- the full model
@@ -56,10 +56,10 @@ pub record Worked : Type 0 where
   -- aload_0, iconst_1, iconst_1, multianewarray of two dimensions
   pub makes_arrays : Leaves Full (0x2a ∷ 0x04 ∷ 0x04 ∷ 0xc5 ∷ 0x00 ∷ 0x01 ∷ 0x02 ∷ []) (cell_of 0 0 ∷ 0 ∷ []) 4
   -- of none, and with its dimensions cut off
-  pub no_dimension : Fails Full (0x04 ∷ 0xc5 ∷ 0x00 ∷ 0x01 ∷ 0x00 ∷ 0xbe ∷ []) 5 1 1 notModelled
+  pub no_dimension : Fails Full (0x04 ∷ 0xc5 ∷ 0x00 ∷ 0x01 ∷ 0x00 ∷ 0xbe ∷ []) 5 1 1 not_modelled
   pub cut_dimension : Fails Full (0x04 ∷ 0xc5 ∷ 0x00 ∷ 0x01 ∷ []) 5 1 1 cut
   -- iconst_1, iadd: taking more slots than there are
-  pub too_few_slots : Fails Full (0x04 ∷ 0x60 ∷ 0xbe ∷ []) 2 1 1 tooFew
+  pub too_few_slots : Fails Full (0x04 ∷ 0x60 ∷ 0xbe ∷ []) 2 1 1 too_few
   -- nop, wide aload 300: the load is of the two bytes behind the opcode, at the index of `wide`; and so for local 65,535
   pub far_loads : Leaves Full (0x00 ∷ 0xc4 ∷ 0x19 ∷ 0x01 ∷ 0x2c ∷ []) (65837 ∷ []) 2
   pub farthest : Leaves Full (0xc4 ∷ 0x19 ∷ 0xff ∷ 0xff ∷ []) (65536 ∷ []) 1
@@ -69,12 +69,12 @@ pub record Worked : Type 0 where
   pub far_stores : Leaves Full (0x2a ∷ 0x0a ∷ 0xc4 ∷ 0x37 ∷ 0x01 ∷ 0x2c ∷ []) (cell_of 0 0 ∷ []) 3
   pub far_increments : Leaves Full (0x2a ∷ 0xc4 ∷ 0x84 ∷ 0x01 ∷ 0x2c ∷ 0x00 ∷ 0x05 ∷ []) (cell_of 0 0 ∷ []) 2
   -- wide ret, a `wide` that nothing follows, wide aload with its local cut off
-  pub far_returns : Fails Full (0xc4 ∷ 0xa9 ∷ 0x00 ∷ 0x01 ∷ 0xbe ∷ []) 4 0 0 notModelled
-  pub far_nothing : Fails Full (0xc4 ∷ []) 1 0 0 notModelled
+  pub far_returns : Fails Full (0xc4 ∷ 0xa9 ∷ 0x00 ∷ 0x01 ∷ 0xbe ∷ []) 4 0 0 not_modelled
+  pub far_nothing : Fails Full (0xc4 ∷ []) 1 0 0 not_modelled
   pub far_cut : Fails Full (0xc4 ∷ 0x19 ∷ 0x01 ∷ []) 4 0 0 cut
   -- wide iload reads nothing behind it, as iload does, and is completed
   pub far_unread : walk cells (rows_of Full) nothing (0xc4 ∷ 0x15 ∷ []) 4 0 ≡ done (0 ∷ []) 1
   -- document 01's model has no `wide`
-  pub far_unmodelled : Fails Document (0xc4 ∷ 0x19 ∷ 0x01 ∷ 0x2c ∷ 0xbe ∷ []) 4 0 0 notModelled
+  pub far_unmodelled : Fails Document (0xc4 ∷ 0x19 ∷ 0x01 ∷ 0x2c ∷ 0xbe ∷ []) 4 0 0 not_modelled
   -- invokedynamic
-  pub dynamic : Fails Full (0xba ∷ 0x00 ∷ 0x01 ∷ 0x00 ∷ 0x00 ∷ 0xbe ∷ []) 5 0 0 notModelled
+  pub dynamic : Fails Full (0xba ∷ 0x00 ∷ 0x01 ∷ 0x00 ∷ 0x00 ∷ 0xbe ∷ []) 5 0 0 not_modelled

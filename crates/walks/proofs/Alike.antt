@@ -15,7 +15,7 @@ use Rattle.fixed.specs.Fixed.{size_at}
 use Rattle.effects.specs.Lookup.{Lookup}
 use Rattle.effects.specs.Rows.{Row}
 use Rattle.walk.specs.Room.{completing, completed_from, completed}
-use Rattle.walk.specs.Walk.{Reason, past_end, tooFew, tooLarge, overshot, Marks, Push, blanks, load, carried, unread, Effect, fails, does, effect_by}
+use Rattle.walk.specs.Walk.{Reason, past_end, too_few, too_large, overshot, Marks, Push, blanks, load, carried, unread, Effect, fails, does, effect_by}
 use Rattle.walk.specs.Walk.{Made, refused, made, placed, pushed, applied, Outcome, stops, goes, passes, landed, done, failed, step, ended, after, walk_from, walk}
 use Rattle.walks.specs.Marks.{Related, EndAlike, both_done, both_failed, WalkBoth}
 
@@ -52,8 +52,8 @@ module _ {A B : Type 0} (R : A → B → Type 0) (M : Marks A) (N : Marks B) whe
       where
         by_test :
             (b : Bool) →
-            MadeAlike R (pick b (made (kept ++ M.mark pc local ∷ [])) (refused tooLarge))
-            (pick b (made (left ++ N.mark pc local ∷ [])) (refused tooLarge))
+            MadeAlike R (pick b (made (kept ++ M.mark pc local ∷ [])) (refused too_large))
+            (pick b (made (left ++ N.mark pc local ∷ [])) (refused too_large))
         by_test true = both_made (each_append k (one (asked local refl).0 none))
         by_test false = both_refused
     pushed_alike k h (carried places) asked = both_made (each_append k (each_placed places h))
@@ -68,8 +68,8 @@ module _ {A B : Type 0} (R : A → B → Type 0) (M : Marks A) (N : Marks B) whe
       where
         by_test :
             (b : Bool) →
-            MadeAlike R (pick b (pushed M pc (take (length others - takes) slots) slots push) (refused tooFew))
-            (pick b (pushed N pc (take (length others - takes) others) others push) (refused tooFew))
+            MadeAlike R (pick b (pushed M pc (take (length others - takes) slots) slots push) (refused too_few))
+            (pick b (pushed N pc (take (length others - takes) others) others push) (refused too_few))
         by_test true =
             pushed_alike (each_take (length others - takes) h) h push (λ local e. asked takes local (ap (does takes) e))
         by_test false = both_refused

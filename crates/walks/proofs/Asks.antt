@@ -12,7 +12,7 @@ use Rattle.basics.specs.Choice.{pick}
 use Rattle.jvms.specs.Stack.{key_at}
 use Rattle.fixed.specs.Fixed.{size_at}
 use Rattle.effects.specs.Lookup.{Lookup}
-use Rattle.effects.specs.Rows.{Row, unmodelled, opaque, aload, aloadFar, aload_of, carries, keeps, gets, calls, puts, makes}
+use Rattle.effects.specs.Rows.{Row, unmodelled, opaque, aload, aload_far, aload_of, carries, keeps, gets, calls, puts, makes}
 use Rattle.walk.specs.Room.{completing, completed_from, completed, Roomed, lacks, judged}
 use Rattle.walk.specs.Walk.{Marks, past_end, Effect, effect_by, applied, landed}
 use Rattle.walk.specs.Walk.{Outcome, stops, goes, passes, step, ended, after, walk_from, walk}
@@ -24,7 +24,7 @@ module _ {A : Type 0} (marks : Marks A) (rows : ℕ → Row) (one other : Lookup
   effect_same pc unmodelled a = refl
   effect_same pc (opaque taken given) a = refl
   effect_same pc aload a = refl
-  effect_same pc aloadFar a = refl
+  effect_same pc aload_far a = refl
   effect_same pc (aload_of local) a = refl
   effect_same pc (carries taken places) a = refl
   effect_same pc keeps a = refl

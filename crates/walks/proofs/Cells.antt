@@ -23,8 +23,8 @@ use Rattle.descriptor.specs.declared.Params.TheVariants.{Read, Unreadable as NoP
 use Rattle.descriptor.specs.declared.Slots.{Slots}
 use Rattle.descriptor.specs.declared.Slots.TheVariants.{Slots as SlotsOf, Unreadable as NoSlots}
 use Rattle.effects.specs.Lookup.{Known, missing, known, Lookup}
-use Rattle.effects.specs.Rows.{Row, unmodelled, opaque, aload, aloadFar, aload_of, carries, keeps, gets, calls, puts, makes, row_of}
-use Rattle.walk.specs.Walk.{notModelled, cut, blanks, load, Effect, fails, does, getting, putting, making, called, calling, effect_by, cells}
+use Rattle.effects.specs.Rows.{Row, unmodelled, opaque, aload, aload_far, aload_of, carries, keeps, gets, calls, puts, makes, row_of}
+use Rattle.walk.specs.Walk.{not_modelled, cut, blanks, load, Effect, fails, does, getting, putting, making, called, calling, effect_by, cells}
 use Rattle.walks.specs.Cells.{document_cell, document_cells, document_unpacked, SameSlot, PresentWalks}
 use Rattle.walks.specs.Marks.{Related}
 use Rattle.walks.proofs.Alike.{walk_both}
@@ -59,7 +59,7 @@ module _ (takes local : ℕ) where
   making_not : {P : Type 0} (dimensions : ℕ) → Loads (making dimensions) → P
   making_not {P} dimensions e = by_test (eqb dimensions 0) e
     where
-      by_test : (b : Bool) → Loads (pick b (fails notModelled) (does dimensions (blanks 1))) → P
+      by_test : (b : Bool) → Loads (pick b (fails not_modelled) (does dimensions (blanks 1))) → P
       by_test true q = let z : ◌≡◌ {A = ℕ} 0 1 = cc in absurd (omega arith)
       by_test false q = let z : ◌≡◌ {A = ℕ} 0 1 = cc in absurd (omega arith)
 
@@ -69,7 +69,7 @@ abbrev loads_byte : Row → Bool
 loads_byte unmodelled = true
 loads_byte (opaque taken given) = true
 loads_byte aload = true
-loads_byte aloadFar = false
+loads_byte aload_far = false
 loads_byte (aload_of local) = ltb local 256
 loads_byte (carries taken places) = true
 loads_byte keeps = true
@@ -90,7 +90,7 @@ module _ (lookup : Lookup) (code : List ℕ) (are : AreBytes code) (pc takes loc
       uncut_loads takes local (ltb (pc + 1) (length code)) (does 0 (load (byte_at code (pc + 1))))
       (λ q. let same : byte_at code (pc + 1) ≡ local = cc in omega (arith, same, are (pc + 1)))
       e
-  near aloadFar t e = absurd t
+  near aload_far t e = absurd t
   near (aload_of l) t e = let same : l ≡ local = cc in omega (arith, same, ltb→lt l 256 t)
   near (carries taken places) t e = let z : ◌≡◌ {A = ℕ} 0 1 = cc in absurd (omega arith)
   near keeps t e = let z : ◌≡◌ {A = ℕ} 0 1 = cc in absurd (omega arith)

@@ -12,9 +12,9 @@ use Rattle.jvms.specs.Stack.{key_at}
 use Rattle.fixed.specs.Fixed.{size_at}
 use Rattle.effects.specs.Agreement.{is_modelled}
 use Rattle.effects.specs.Lookup.{Lookup}
-use Rattle.effects.specs.Rows.{Row, unmodelled, opaque, aload, aloadFar, aload_of, carries, keeps, gets, calls, puts, makes}
+use Rattle.effects.specs.Rows.{Row, unmodelled, opaque, aload, aload_far, aload_of, carries, keeps, gets, calls, puts, makes}
 use Rattle.walk.specs.Room.{Completed, completing, completed_from, completed}
-use Rattle.walk.specs.Walk.{past_end, notModelled, Marks, effect_by, applied, Outcome, stops, goes, passes, landed}
+use Rattle.walk.specs.Walk.{past_end, not_modelled, Marks, effect_by, applied, Outcome, stops, goes, passes, landed}
 use Rattle.walk.specs.Walk.{Walked, failed, step, ended, after, walk_from, walk}
 use Rattle.walks.specs.Models.{Extends, WalkExtends, WalkReaches}
 
@@ -25,7 +25,7 @@ data Beside {A : Type 0} : Walked A → Walked A → List Completed → List Com
   alike : {end : Walked A} {cs : List Completed} → Beside end end cs cs
   goes_on :
       {count index : ℕ} {end : Walked A} {cs : List Completed} (rest : List Completed) →
-      Beside (failed count index notModelled) end cs (cs ++ rest)
+      Beside (failed count index not_modelled) end cs (cs ++ rest)
 
 module _ {A : Type 0} where
   beside_after :
@@ -35,7 +35,7 @@ module _ {A : Type 0} where
 
   same_in_all :
       {end end' : Walked A} {cs cs' : List Completed} → Beside end end' cs cs' →
-      ((count index : ℕ) → end ≡ failed count index notModelled → ⊥) → (end' ≡ end) × (cs' ≡ cs)
+      ((count index : ℕ) → end ≡ failed count index not_modelled → ⊥) → (end' ≡ end) × (cs' ≡ cs)
   same_in_all alike modelled = (refl, refl)
   same_in_all (goes_on {count} {index} rest) modelled = absurd (modelled count index refl)
 
@@ -50,7 +50,7 @@ modelled_or_not : (row : Row) → T (is_modelled row) ⊎ (row ≡ unmodelled)
 modelled_or_not unmodelled = inr refl
 modelled_or_not (opaque taken given) = inl tt
 modelled_or_not aload = inl tt
-modelled_or_not aloadFar = inl tt
+modelled_or_not aload_far = inl tt
 modelled_or_not (aload_of local) = inl tt
 modelled_or_not (carries taken places) = inl tt
 modelled_or_not keeps = inl tt
@@ -70,7 +70,7 @@ module _ {A : Type 0} (marks : Marks A) (rows more : ℕ → Row) (extends : Ext
   same_step :
       (pc : ℕ) (list : List A) →
       (step marks more lookup code fault pc list ≡ step marks rows lookup code fault pc list)
-      ⊎ (step marks rows lookup code fault pc list ≡ stops notModelled)
+      ⊎ (step marks rows lookup code fault pc list ≡ stops not_modelled)
   unfolding step
   same_step pc list =
       ⊎_elim
@@ -80,7 +80,7 @@ module _ {A : Type 0} (marks : Marks A) (rows more : ℕ → Row) (extends : Ext
     where
       by_end :
           (b : Bool) → ltb pc (length code) ≡ b →
-          (by_row pc list (more (key_at code pc)) ≡ by_row pc list unmodelled) ⊎ (by_row pc list unmodelled ≡ stops notModelled)
+          (by_row pc list (more (key_at code pc)) ≡ by_row pc list unmodelled) ⊎ (by_row pc list unmodelled ≡ stops not_modelled)
       by_end true e = inr (rw e)
       by_end false e = inl (rw e)
 
@@ -114,7 +114,7 @@ module _ {A : Type 0} (marks : Marks A) (rows more : ℕ → Row) (extends : Ext
       by_outcome rest (passes l) = alike
 
       by_step :
-          Rest → (x y : Outcome A) → (y ≡ x) ⊎ (x ≡ stops notModelled) →
+          Rest → (x y : Outcome A) → (y ≡ x) ⊎ (x ≡ stops not_modelled) →
           Beside (ends rows x) (ends more y) (completes rows x) (completes more y)
       by_step rest x y (inl e) = rw e (by_outcome rest x)
       by_step rest x y (inr e) = rw e (goes_on (completes more y))

@@ -6,9 +6,9 @@ use Rattle.basics.specs.Bytes.{u16_at}
 use Rattle.jvms.specs.Stack.{key_at}
 use Rattle.effects.specs.Agreement.{is_modelled}
 use Rattle.effects.specs.Lookup.{Lookup}
-use Rattle.effects.specs.Rows.{Row, unmodelled, opaque, aload, aloadFar, aload_of, carries, keeps, gets, calls, puts, makes}
+use Rattle.effects.specs.Rows.{Row, unmodelled, opaque, aload, aload_far, aload_of, carries, keeps, gets, calls, puts, makes}
 use Rattle.walk.specs.Room.{Completed, completed, judged}
-use Rattle.walk.specs.Walk.{notModelled, Marks, failed, walk}
+use Rattle.walk.specs.Walk.{not_modelled, Marks, failed, walk}
 use Rattle.walks.specs.Comes.{ComesIn}
 
 -- ---- another table
@@ -23,7 +23,7 @@ abbrev pub WalkExtends : Type 1
 WalkExtends =
     (A : Type 0) (marks : Marks A) (rows more : ℕ → Row) → Extends rows more →
     (lookup : Lookup) (code : List ℕ) (fault leader : ℕ) →
-    ((count index : ℕ) → walk marks rows lookup code fault leader ≡ failed count index notModelled → ⊥) →
+    ((count index : ℕ) → walk marks rows lookup code fault leader ≡ failed count index not_modelled → ⊥) →
     (walk marks more lookup code fault leader ≡ walk marks rows lookup code fault leader)
     × (completed marks more lookup code fault leader ≡ completed marks rows lookup code fault leader)
 
@@ -42,7 +42,7 @@ abbrev pub AlikeFor : Row → Lookup → Lookup → List ℕ → ℕ → Type 0
 AlikeFor unmodelled one other code pc = Unit {0}
 AlikeFor (opaque taken given) one other code pc = Unit {0}
 AlikeFor aload one other code pc = Unit {0}
-AlikeFor aloadFar one other code pc = Unit {0}
+AlikeFor aload_far one other code pc = Unit {0}
 AlikeFor (aload_of local) one other code pc = Unit {0}
 AlikeFor (carries taken places) one other code pc = Unit {0}
 AlikeFor keeps one other code pc = Unit {0}

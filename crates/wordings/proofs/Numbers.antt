@@ -34,34 +34,34 @@ use Rattle.wordings.specs.Numbers.{IsWorded, ElevenExactly, CallsWorded, WordedE
 
 known : (model : Model) (number : ℕ) (wording : Wording) → wording_by number ≡ Known wording → IsWorded model number wording
 unfolding report_worded reported_worded
-known model number wording e = record { answers = λ bytes room outRoom. rw e; outputs = λ bytes room out. rw e }
+known model number wording e = record { answers = λ bytes room out_room. rw e; outputs = λ bytes room out. rw e }
 
 -- ---- 11 is the answer to no case
 
-not_said : (told : Said) (outRoom : ℕ) → answer_by told outRoom ≡ NoWording → ⊥
-not_said silent outRoom e = let z : ◌≡◌ {A = ℕ} 0 1 = cc in omega arith
-not_said (roomless index) outRoom e = let z : ◌≡◌ {A = ℕ} 0 1 = cc in omega arith
-not_said (said message kind scan block) outRoom e = by_room (leb (length message) outRoom) e
+not_said : (told : Said) (out_room : ℕ) → answer_by told out_room ≡ NoWording → ⊥
+not_said silent out_room e = let z : ◌≡◌ {A = ℕ} 0 1 = cc in omega arith
+not_said (roomless index) out_room e = let z : ◌≡◌ {A = ℕ} 0 1 = cc in omega arith
+not_said (said message kind scan block) out_room e = by_room (leb (length message) out_room) e
   where
     by_room : (b : Bool) → pick b (Message (length message) kind scan block) (NoOutput (needed message)) ≡ NoWording → ⊥
     by_room true q = let z : ◌≡◌ {A = ℕ} 0 1 = cc in omega arith
     by_room false q = let z : ◌≡◌ {A = ℕ} 0 1 = cc in omega arith
 
-not_reported : (manner : Manner) (bytes : List ℕ) (room outRoom : ℕ) → report_in manner bytes room outRoom ≡ NoWording → ⊥
+not_reported : (manner : Manner) (bytes : List ℕ) (room out_room : ℕ) → report_in manner bytes room out_room ≡ NoWording → ⊥
 unfolding report_in
-not_reported manner bytes room outRoom e = by_case (case_of bytes) e
+not_reported manner bytes room out_room e = by_case (case_of bytes) e
   where
-    by_case : (c : Case) → answer_of manner bytes room outRoom c ≡ NoWording → ⊥
-    by_case (cases.Parts places) q = not_said (said_in manner (parts_of bytes places) room) outRoom q
+    by_case : (c : Case) → answer_of manner bytes room out_room c ≡ NoWording → ⊥
+    by_case (cases.Parts places) q = not_said (said_in manner (parts_of bytes places) room) out_room q
     by_case (cases.Wrong offset) q = let z : ◌≡◌ {A = ℕ} 0 1 = cc in omega arith
     by_case cases.TooLong q = let z : ◌≡◌ {A = ℕ} 0 1 = cc in omega arith
 
-module _ (model : Model) (number : ℕ) (bytes : List ℕ) (room outRoom : ℕ)
-    (answer : report_worded model number bytes room outRoom ≡ NoWording) where
+module _ (model : Model) (number : ℕ) (bytes : List ℕ) (room out_room : ℕ)
+    (answer : report_worded model number bytes room out_room ≡ NoWording) where
   not_known : (wording : Wording) → wording_by number ≡ Known wording → ⊥
   not_known wording e =
-      not_reported (manner_of model wording) bytes room outRoom
-      (sym ((known model number wording e).answers bytes room outRoom) ∙ answer)
+      not_reported (manner_of model wording) bytes room out_room
+      (sym ((known model number wording e).answers bytes room out_room) ∙ answer)
 
 pub eleven_exactly : ElevenExactly
 unfolding report_worded reported_worded
@@ -69,11 +69,11 @@ eleven_exactly =
     record {
       one = λ model. known model 1 Byte refl;
       two = λ model. known model 2 ByteBoolean refl;
-      refuses = λ model number one two bytes room outRoom. rw (unknown number one two);
+      refuses = λ model number one two bytes room out_room. rw (unknown number one two);
       unchanged = λ model number one two bytes room out. rw (unknown number one two);
-      only = λ model number bytes room outRoom answer. (
-        λ e. not_known model number bytes room outRoom answer Byte (rw e),
-        λ e. not_known model number bytes room outRoom answer ByteBoolean (rw e),
+      only = λ model number bytes room out_room answer. (
+        λ e. not_known model number bytes room out_room answer Byte (rw e),
+        λ e. not_known model number bytes room out_room answer ByteBoolean (rw e),
       );
     }
 
@@ -81,11 +81,11 @@ pub calls_worded : CallsWorded
 unfolding report_worded reported_worded
 calls_worded =
     record {
-      document = λ bytes room outRoom. refl;
+      document = λ bytes room out_room. refl;
       document_output = λ bytes room out. refl;
-      unnamed = λ bytes room outRoom. refl;
+      unnamed = λ bytes room out_room. refl;
       unnamed_output = λ bytes room out. refl;
-      full = λ bytes room outRoom. refl;
+      full = λ bytes room out_room. refl;
       full_output = λ bytes room out. refl;
     }
 

@@ -99,7 +99,7 @@ module _ (model : Model) (bytes begin : List ℕ) (w : AtThatWord bytes begin) (
 module _ (model : Model) (bytes : List ℕ) (room : ℕ) (out out' : List ℕ) where
   -- what is said is the same and makes this answer of every output, and changes none
   by_said :
-      (told : Said) (answer : Report) → ((outRoom : ℕ) → answer_by told outRoom ≡ answer) →
+      (told : Said) (answer : Report) → ((out_room : ℕ) → answer_by told out_room ≡ answer) →
       ((o : List ℕ) → output_by told o ≡ o) → (places : Places) → case_of bytes ≡ cases.Parts places →
       said_in (in_wording1 model) (parts_of bytes places) room ≡ told →
       said_in (in_wording2 model) (parts_of bytes places) room ≡ told → Unworded model bytes room out out' answer
@@ -115,7 +115,7 @@ module _ (model : Model) (bytes : List ℕ) (room : ℕ) (out out' : List ℕ) w
       Unworded model bytes room out out' NoMessage
   no-message (cases.Parts places) reads q =
       let says = silent_answer (said_in (in_wording1 model) (parts_of bytes places) room) (length out) q in
-      by_said silent NoMessage (λ outRoom. refl) (λ o. refl) places reads says
+      by_said silent NoMessage (λ out_room. refl) (λ o. refl) places reads says
       ((only_that_word model (parts_of bytes places) room).nothing says)
   no-message (cases.Wrong offset) reads q = let z : ◌≡◌ {A = ℕ} 0 1 = cc in absurd (omega arith)
   no-message cases.TooLong reads q = let z : ◌≡◌ {A = ℕ} 0 1 = cc in absurd (omega arith)
@@ -125,7 +125,7 @@ module _ (model : Model) (bytes : List ℕ) (room : ℕ) (out out' : List ℕ) w
       Unworded model bytes room out out' (NoRoom index)
   no-room index (cases.Parts places) reads q =
       let says = roomless_answer (said_in (in_wording1 model) (parts_of bytes places) room) (length out) index q in
-      by_said (roomless index) (NoRoom index) (λ outRoom. refl) (λ o. refl) places reads says
+      by_said (roomless index) (NoRoom index) (λ out_room. refl) (λ o. refl) places reads says
       ((only_that_word model (parts_of bytes places) room).lacking index says)
   no-room index (cases.Wrong offset) reads q = let z : ◌≡◌ {A = ℕ} 0 1 = cc in absurd (omega arith)
   no-room index cases.TooLong reads q = let z : ◌≡◌ {A = ℕ} 0 1 = cc in absurd (omega arith)
@@ -141,11 +141,11 @@ module _ (model : Model) (bytes : List ℕ) (other : (begin : List ℕ) → AtTh
       (λ begin begins. other begin (record { places = places; reads = reads; begins = begins }))
 
   same_answer :
-      (outRoom : ℕ) (c : Case) → case_of bytes ≡ c →
-      answer_of (in_wording2 model) bytes room outRoom c ≡ answer_of (in_wording1 model) bytes room outRoom c
-  same_answer outRoom (cases.Parts places) reads = ap (λ (told : Said). answer_by told outRoom) (same places reads)
-  same_answer outRoom (cases.Wrong offset) reads = refl
-  same_answer outRoom cases.TooLong reads = refl
+      (out_room : ℕ) (c : Case) → case_of bytes ≡ c →
+      answer_of (in_wording2 model) bytes room out_room c ≡ answer_of (in_wording1 model) bytes room out_room c
+  same_answer out_room (cases.Parts places) reads = ap (λ (told : Said). answer_by told out_room) (same places reads)
+  same_answer out_room (cases.Wrong offset) reads = refl
+  same_answer out_room cases.TooLong reads = refl
 
   same_output :
       (out : List ℕ) (c : Case) → case_of bytes ≡ c →
@@ -161,6 +161,6 @@ reports_that_word model bytes =
       there = own_length model bytes;
       no_message = λ room out out' e. no-message model bytes room out out' (case_of bytes) refl e;
       no_room = λ room out out' index e. no-room model bytes room out out' index (case_of bytes) refl e;
-      answers_elsewhere = λ other room outRoom. same_answer model bytes other room outRoom (case_of bytes) refl;
+      answers_elsewhere = λ other room out_room. same_answer model bytes other room out_room (case_of bytes) refl;
       outputs_elsewhere = λ other room out. same_output model bytes other room out (case_of bytes) refl;
     }

@@ -36,7 +36,7 @@ use Rattle.models.proofs.Elsewhere.{fault}
 use Rattle.wordings.specs.Word.{in_wording1, in_wording2, Begins, loading, storing, faulting, ButThatWord, OnlyThatWord}
 
 abbrev cause_of : Parts → Slot → List ℕ
-cause_of p cause = cause_text cause p.records p.recordCount p.signature (is_instance p.flags)
+cause_of p cause = cause_text cause p.records p.record_count p.signature (is_instance p.flags)
 
 -- ---- at the two opcodes
 
@@ -54,11 +54,11 @@ acts storing = record { action = StoreArray 5; fails = λ d b index. refl; words
 
 module _ (model : Model) (p : Parts) (room : ℕ) (begin : List ℕ) (a : Acts (faulting p) begin) (message : List ℕ)
     (kind scan block : ℕ) where
-  decodes : fault p ≡ failed_at (depth_of (lookup_in p.members p.memberCount) p.code p.fault) a.action
+  decodes : fault p ≡ failed_at (depth_of (lookup_in p.members p.member_count) p.code p.fault) a.action
   unfolding decoded
   decodes =
-      a.fails (depth_of (lookup_in p.members p.memberCount) p.code p.fault)
-      (constructs p.members p.memberCount (u16_at p.code (p.fault + 1))) (u16_at p.code (p.fault + 1))
+      a.fails (depth_of (lookup_in p.members p.member_count) p.code p.fault)
+      (constructs p.members p.member_count (u16_at p.code (p.fault + 1))) (u16_at p.code (p.fault + 1))
 
   by_trace :
       (t : Trace) → said_by Byte p a.action t ≡ said message kind scan block →
@@ -83,7 +83,7 @@ module _ (model : Model) (p : Parts) (room : ℕ) (begin : List ℕ) (a : Acts (
   that_word : said_in (in_wording1 model) p room ≡ said message kind scan block → ButThatWord model p room begin message kind scan block
   unfolding said_in
   that_word told =
-      let found = by_depth (depth_of (lookup_in p.members p.memberCount) p.code p.fault) (rw decodes at told) in
+      let found = by_depth (depth_of (lookup_in p.members p.member_count) p.code p.fault) (rw decodes at told) in
       record { behind = found.0; is = found.1; says = rw decodes found.2 }
 
 -- ---- at every other opcode
@@ -106,7 +106,7 @@ array_alike words element other = ap (λ (text : List ℕ). words ++ text ++ asc
 module _ (p : Parts) where
   -- the words of an action are the same
   unfoldable Alike : Action → Type 0
-  Alike action = action_text ByteBoolean p.members p.memberCount action ≡ action_text Byte p.members p.memberCount action
+  Alike action = action_text ByteBoolean p.members p.member_count action ≡ action_text Byte p.members p.member_count action
 
   action_alike : (op index : ℕ) → (op ≡ 51 → ⊥) → (op ≡ 84 → ⊥) → Alike (action_of op index)
   unfolding action_of action_text Alike
@@ -142,8 +142,8 @@ module _ (p : Parts) where
     unfolding said_in decoded Same
     same_said load store =
         let index = u16_at p.code (p.fault + 1) in
-        let deep = depth_of (lookup_in p.members p.memberCount) p.code p.fault in
-        chosen Same (both (invokes (faulting p)) (constructs p.members p.memberCount index)) Nothing
+        let deep = depth_of (lookup_in p.members p.member_count) p.code p.fault in
+        chosen Same (both (invokes (faulting p)) (constructs p.members p.member_count index)) Nothing
         (failed_at deep (action_of (faulting p) index)) refl
         (by_action (action_of (faulting p) index) (action_alike (faulting p) index load store) deep)
 

@@ -22,8 +22,8 @@ use Rattle.evidence.specs.Evidence.{WellDescribed, Reported}
 -- a number's report is that of a wording, whatever is lent
 pub record IsWorded (model : Model) (number : ℕ) (wording : Wording) : Type 0 where
   pub answers :
-      (bytes : List ℕ) (room outRoom : ℕ) →
-      report_worded model number bytes room outRoom ≡ report_in (manner_of model wording) bytes room outRoom
+      (bytes : List ℕ) (room out_room : ℕ) →
+      report_worded model number bytes room out_room ≡ report_in (manner_of model wording) bytes room out_room
   pub outputs :
       (bytes : List ℕ) (room : ℕ) (out : List ℕ) →
       reported_worded model number bytes room out ≡ reported_by (manner_of model wording) bytes room out
@@ -33,30 +33,30 @@ pub record ElevenExactly : Type 0 where
   pub two : (model : Model) → IsWorded model 2 ByteBoolean
   -- 11 for every other number, whatever the case is and whatever is lent; and for no other
   pub refuses :
-      (model : Model) (number : ℕ) → (number ≡ 1 → ⊥) → (number ≡ 2 → ⊥) → (bytes : List ℕ) (room outRoom : ℕ) →
-      report_worded model number bytes room outRoom ≡ NoWording
+      (model : Model) (number : ℕ) → (number ≡ 1 → ⊥) → (number ≡ 2 → ⊥) → (bytes : List ℕ) (room out_room : ℕ) →
+      report_worded model number bytes room out_room ≡ NoWording
   pub unchanged :
       (model : Model) (number : ℕ) → (number ≡ 1 → ⊥) → (number ≡ 2 → ⊥) → (bytes : List ℕ) (room : ℕ) (out : List ℕ) →
       reported_worded model number bytes room out ≡ out
   pub only :
-      (model : Model) (number : ℕ) (bytes : List ℕ) (room outRoom : ℕ) →
-      report_worded model number bytes room outRoom ≡ NoWording → (number ≡ 1 → ⊥) × (number ≡ 2 → ⊥)
+      (model : Model) (number : ℕ) (bytes : List ℕ) (room out_room : ℕ) →
+      report_worded model number bytes room out_room ≡ NoWording → (number ≡ 1 → ⊥) × (number ≡ 2 → ⊥)
 
 -- ---- what a call gets
 
 pub record CallsWorded : Type 0 where
   -- demand 2 reads for wording 1 in document 01's model
   pub document :
-      (bytes : List ℕ) (room outRoom : ℕ) → report_worded Document 1 bytes room outRoom ≡ report_of bytes room outRoom
+      (bytes : List ℕ) (room out_room : ℕ) → report_worded Document 1 bytes room out_room ≡ report_of bytes room out_room
   pub document_output :
       (bytes : List ℕ) (room : ℕ) (out : List ℕ) → reported_worded Document 1 bytes room out ≡ reported_in bytes room out
   -- a call that names nothing, and one that names the full model alone
   pub unnamed :
-      (bytes : List ℕ) (room outRoom : ℕ) → report_in default_manner bytes room outRoom ≡ report_worded Document 2 bytes room outRoom
+      (bytes : List ℕ) (room out_room : ℕ) → report_in default_manner bytes room out_room ≡ report_worded Document 2 bytes room out_room
   pub unnamed_output :
       (bytes : List ℕ) (room : ℕ) (out : List ℕ) →
       reported_by default_manner bytes room out ≡ reported_worded Document 2 bytes room out
-  pub full : (bytes : List ℕ) (room outRoom : ℕ) → report_in full_manner bytes room outRoom ≡ report_worded Full 2 bytes room outRoom
+  pub full : (bytes : List ℕ) (room out_room : ℕ) → report_in full_manner bytes room out_room ≡ report_worded Full 2 bytes room out_room
   pub full_output :
       (bytes : List ℕ) (room : ℕ) (out : List ℕ) → reported_by full_manner bytes room out ≡ reported_worded Full 2 bytes room out
 

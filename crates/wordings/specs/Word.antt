@@ -95,8 +95,8 @@ pub record ReportsThatWord (model : Model) (bytes : List ℕ) : Type 0 where
       Unworded model bytes room out out' (NoRoom index)
   -- a case that is broken, too long or at another opcode
   pub answers_elsewhere :
-      ((begin : List ℕ) → AtThatWord bytes begin → ⊥) → (room outRoom : ℕ) →
-      report_in (in_wording2 model) bytes room outRoom ≡ report_in (in_wording1 model) bytes room outRoom
+      ((begin : List ℕ) → AtThatWord bytes begin → ⊥) → (room out_room : ℕ) →
+      report_in (in_wording2 model) bytes room out_room ≡ report_in (in_wording1 model) bytes room out_room
   pub outputs_elsewhere :
       ((begin : List ℕ) → AtThatWord bytes begin → ⊥) → (room : ℕ) (out : List ℕ) →
       reported_by (in_wording2 model) bytes room out ≡ reported_by (in_wording1 model) bytes room out
