@@ -10,7 +10,7 @@ ghost use Rattle.effects.specs.Lookup.{lookup_in};
 ghost use Rattle.effects.specs.Rows.{rows_of};
 ghost use Rattle.row.specs.Code.{copy_places, swap_places};
 ghost use Rattle.walk.specs.Room.{Walks, WalksIn};
-ghost use Rattle.walk.specs.Walk.{cells, blanks, load as loadPush, carried, does, applied, step as step_at};
+ghost use Rattle.walk.specs.Walk.{cells, blanks, load as load_push, carried, does, applied, step as step_at};
 ghost use Rattle.instruction.specs.Code.{effect_from};
 ghost use Rattle.block.specs.Inner.{Clean, Laid, Stepped};
 ghost use Rattle.block.specs.declared.Step.TheVariants.{Goes, Passes};
@@ -64,7 +64,7 @@ fn push_opaque(stack: &mut [u64], height: usize, takes: usize, gives: usize) -> 
 fn push_load(stack: &mut [u64], height: usize, pc: usize, local: usize) -> Height
     requires { Clean stack.old height }
     ensures { Laid stack.old result stack.new
-        (applied cells pc (does 0 (loadPush local)) (take height stack.old)) }
+        (applied cells pc (does 0 (load_push local)) (take height stack.old)) }
 {
     let Cell::Held(cell) = cell::pack(pc, local) else {
         return Height::Refused;

@@ -2,7 +2,7 @@
 // 1 and 7).
 #![tactic(auto)]
 ghost use Rattle.std.specs.Prelude.{◌≡◌, ◌-◌, ◌≤◌, length};
-ghost use Rattle.effects.specs.Rows.{rows_of, aload as aloadRow, aloadFar as farRow, gets as getsRow, calls as callsRow, puts as putsRow, makes as makesRow};
+ghost use Rattle.effects.specs.Rows.{rows_of, aload as aload_row, aload_far as far_row, gets as gets_row, calls as calls_row, puts as puts_row, makes as makes_row};
 ghost use Rattle.key.specs.Key.{key_from};
 ghost use Rattle.walk.specs.Walk.{effect_by};
 ghost use Rattle.walk.specs.Worked.{nothing};
@@ -39,7 +39,7 @@ fn bytes_from(code: &[u8], pc: usize) -> usize
 
 // The effect of `aload`, which names its local by a byte.
 fn load_effect(code: &[u8], pc: usize) -> Effect
-    ensures { effect_from result ≡ bare (effect_by nothing code.now pc aloadRow) }
+    ensures { effect_from result ≡ bare (effect_by nothing code.now pc aload_row) }
 {
     if bytes_from(code, pc) < 2 {
         return Effect::Fails;
@@ -51,7 +51,7 @@ fn load_effect(code: &[u8], pc: usize) -> Effect
 
 // The effect of `wide aload`, which names its local by the two bytes behind the opcode.
 fn far_effect(code: &[u8], pc: usize) -> Effect
-    ensures { effect_from result ≡ bare (effect_by nothing code.now pc farRow) }
+    ensures { effect_from result ≡ bare (effect_by nothing code.now pc far_row) }
 {
     if bytes_from(code, pc) < 4 {
         return Effect::Fails;
@@ -99,7 +99,7 @@ fn get_effect(
     takes: usize,
 ) -> Effect
     ensures { effect_from result ≡ bare (effect_by (lookup_by members.now count table.now)
-        code.now pc (getsRow takes)) }
+        code.now pc (gets_row takes)) }
 {
     let Slots::Slots(gives) = cited_slots(code, members, count, table, pc) else {
         return Effect::Fails;
@@ -118,7 +118,7 @@ fn put_effect(
 ) -> Effect
     requires { takes ≤ 1 }
     ensures { effect_from result ≡ bare (effect_by (lookup_by members.now count table.now)
-        code.now pc (putsRow takes)) }
+        code.now pc (puts_row takes)) }
 {
     let Slots::Slots(slots) = cited_slots(code, members, count, table, pc) else {
         return Effect::Fails;
@@ -131,7 +131,7 @@ fn put_effect(
 
 // The effect of `multianewarray`, which names its dimensions by the third byte behind it.
 fn make_effect(code: &[u8], pc: usize) -> Effect
-    ensures { effect_from result ≡ bare (effect_by nothing code.now pc makesRow) }
+    ensures { effect_from result ≡ bare (effect_by nothing code.now pc makes_row) }
 {
     if bytes_from(code, pc) < 4 {
         return Effect::Fails;
@@ -157,7 +157,7 @@ fn call_effect(
 ) -> Effect
     requires { takes ≤ 1 }
     ensures { effect_from result ≡ bare (effect_by (lookup_by members.now count table.now)
-        code.now pc (callsRow takes)) }
+        code.now pc (calls_row takes)) }
 {
     let texts = cited_texts(code, members, count, table, pc, 1);
     if texts.len() == 0 {
