@@ -13,7 +13,7 @@ use lib.Seq.{drop-set-lt, take-set-lt, take-suc-set}
 use borrow.Author.Tests.{le-leb, lt-leb}
 use Rattle.cell.specs.Cell.{packed}
 use Rattle.cell.specs.declared.Cell.TheVariants.{Held, TooLarge}
-use Rattle.cell.proofs.Laws.{held_so, too_large}
+use Rattle.cell.proofs.Laws.{held_so, too_large as none_packed}
 use Rattle.row.specs.Code.{swap_places}
 use Rattle.block.specs.Inner.{Clean, Laid}
 use Rattle.walk.specs.Room.{shown}
@@ -146,7 +146,7 @@ module _ (c : List ℕ) (h : ℕ) (clean : Clean c h) where
       (pc local : ℕ) → packed pc local ≡ TooLarge → Laid c Refused c (applied cells pc (does 0 (load local)) slots)
   load_refused pc local e =
       let is : applied cells pc (does 0 (load local)) slots ≡ refused too_large =
-      enough pc 0 (load local) (omega arith) ∙ rw (too_large pc local e) in
+      enough pc 0 (load local) (omega arith) ∙ rw (none_packed pc local e) in
       rw is (record { answers = refl; leaves = refl })
 
   pub load_over :
