@@ -10,7 +10,7 @@ use Rattle.answer.proofs.write_message.Goals as goal
 pub returns-then-out-needed : goal.returns-then-out-needed
 returns-then-out-needed c =
     let a = c.args in
-    writing.no_room _ (kind_of a.cause) a.scan a.block a.out.now _ _ c.put_message_at-needed.ensures
+    writing.no-room _ (kind_of a.cause) a.scan a.block a.out.now _ _ c.put_message_at-needed.ensures
     c.if-out-needed.true
 
 pub returns : goal.returns
