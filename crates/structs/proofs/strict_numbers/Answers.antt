@@ -9,4 +9,4 @@ returns-in-Types c = rw c.in-Types.is
 
 pub returns-in-Refused : goal.returns-in-Refused
 unfolding numbered
-returns-in-Refused c = rw (c.in-Refused.is, c.low_bits.ensures, c.before.number_of_lem.ensures)
+returns-in-Refused c = rw (c.in-Refused.is, c.low_bits.ensures, c.number_of.ensures)
