@@ -1,5 +1,6 @@
 // The C interface of the library: numbers and slices in, structs of numbers out. Every function takes any input.
 #![tactic(auto)]
+
 ghost use Rattle.std.specs.Prelude.{◌≡◌, [], length, replicate};
 ghost use Rattle.bytecode.specs.Length.{length_of};
 ghost use Rattle.casefile.specs.Whole.{case_of};
