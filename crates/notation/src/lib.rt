@@ -8,13 +8,16 @@
 // star before either repeat it: 255*"[" "I". No bytes are "". A space, a star, a bar or an equals sign in a text is written in
 // digits.
 #![tactic(auto)]
+
 ghost use Rattle.std.specs.Prelude.{◌≤◌, ◌<◌, ◌≡◌, take};
 ghost use Rattle.notation.specs.Parts.{part_to, behind, is_row};
 
 use check::same;
 use fieldtype::{Found, find_byte};
 use items::part_at;
-use libc::STDOUT_FILENO;
+use std::io::Read;
+use std::rt::Files;
+use std::{fs, io};
 use text::{put_at, put_decimal_at, sum};
 
 // What a field is read as: a number, or how many bytes were read.
@@ -276,39 +279,46 @@ fn name_in<'a>(field: &'a [u8]) -> &'a [u8] {
     part_to(field, 1, b' ')
 }
 
-fn read_field(letter: u8, field: &[u8], x: &mut [u8], y: &mut [u8]) -> Value {
-    match letter {
+fn read_field(
+    rt: &(impl Files + Print),
+    letter: u8,
+    field: &[u8],
+    x: &mut [u8],
+    y: &mut [u8],
+) -> io::Result<Value> {
+    Ok(match letter {
         b'x' => read_bytes(x, field),
         b'y' => read_bytes(y, field),
-        b'f' => Value::Of(read_file(x, name_in(field))),
-        b'g' => Value::Of(read_file(y, name_in(field))),
+        b'f' => Value::Of(read_file(rt, x, name_in(field))?),
+        b'g' => Value::Of(read_file(rt, y, name_in(field))?),
         b'-' => Value::Of(0),
         _ => read_decimal(field),
-    }
+    })
 }
 
 // Reads fields of a shape: bytes into two outputs, and numbers. Answers whether they are so many, and all can be read.
 fn read_fields(
+    rt: &(impl Files + Print),
     fields: &[u8],
     shape: &[u8],
     values: &mut [usize; 7],
     x: &mut [u8],
     y: &mut [u8],
-) -> bool {
+) -> io::Result<bool> {
     // The place of the bar before a field, at last the end.
     let mut bar = part_to(fields, 0, b'|').len();
     let mut i = 0;
     while i < shape.len() {
         let letter = shape[i];
         let field = part_to(fields, sum(bar, 1), b'|');
-        let Value::Of(n) = read_field(letter, field, x, y) else {
-            return false;
+        let Value::Of(n) = read_field(rt, letter, field, x, y)? else {
+            return Ok(false);
         };
         values[place_of(letter)] = n;
         bar = after(bar, field);
         i += 1;
     }
-    bar == fields.len()
+    Ok(bar == fields.len())
 }
 
 // Writes a part of a form from a place on, with a text for its dollar sign.
@@ -344,68 +354,97 @@ fn put_form(out: &mut [u8], form: &[u8], numbers: &[usize], text: &[u8]) -> usiz
 // Reads a row of a kind in a list: its fields, and before them those of a row that holds members, a count d and bytes y. Answers
 // the kind's number, one behind them all where the row can't be read.
 pub fn read_row(
+    rt: &(impl Files + Print),
     kinds: &[u8],
     row: &[u8],
     members: &[u8],
     values: &mut [usize; 7],
     x: &mut [u8],
     y: &mut [u8],
-) -> usize {
+) -> io::Result<usize> {
     let kind = kind_in(kinds, kind_of(row));
-    read_fields(fields(members), b"-dy", values, x, y);
-    if read_fields(fields(row), shape_at(kinds, kind.at), values, x, y) {
-        return kind.number;
+    read_fields(rt, fields(members), b"-dy", values, x, y)?;
+    if read_fields(rt, fields(row), shape_at(kinds, kind.at), values, x, y)? {
+        return Ok(kind.number);
     }
-    kinds.len()
+    Ok(kinds.len())
 }
 
-fn say(text: &[u8]) {
-    io::write_all(STDOUT_FILENO, text);
+fn say(rt: &impl Print, text: &[u8]) -> io::Result<()> {
+    rt.write_all(text)
 }
 
-fn say_difference(row: &[u8], answered: &[u8]) {
-    say(row);
-    say(b"\n    is answered ");
-    say(answered);
-    say(b"\n");
+fn say_difference(rt: &impl Print, row: &[u8], answered: &[u8]) -> io::Result<()> {
+    say(rt, row)?;
+    say(rt, b"\n    is answered ")?;
+    say(rt, answered)?;
+    say(rt, b"\n")
 }
 
 // Whether what is told is the answer that a row holds: the number of a form, numbers, and last the length of a text. What is told
 // otherwise is printed.
-pub fn is_answered(kinds: &[u8], row: &[u8], told: &[usize; 14], text: &[u8]) -> bool {
+pub fn is_answered(
+    rt: &impl Print,
+    kinds: &[u8],
+    row: &[u8],
+    told: &[usize; 14],
+    text: &[u8],
+) -> io::Result<bool> {
     let kind = kind_in(kinds, kind_of(row));
     let form = form_at(kinds, kind.at, told[0]);
     let mut out = [0u8; 2048];
     let end = put_form(&mut out, form, told, part_at(text, 0, told[13]));
     if end == 0 {
-        say_difference(row, b"by nothing, for it can't be read");
-        return false;
+        say_difference(rt, row, b"by nothing, for it can't be read")?;
+        return Ok(false);
     }
     let answered = part_at(&out, 0, end);
     if same(answered, answer(row)) {
-        return true;
+        return Ok(true);
     }
-    say_difference(row, answered);
-    false
+    say_difference(rt, row, answered)?;
+    Ok(false)
 }
 
 // Prints how many rows of a file agree.
-pub fn say_agreed(name: &[u8], agreed: usize) {
-    say(name);
-    say(b": ");
-    io::print_decimal(STDOUT_FILENO, agreed as u64);
-    say(b" rows agree\n");
+pub fn say_agreed(rt: &impl Print, name: &[u8], agreed: usize) -> io::Result<()> {
+    say(rt, name)?;
+    println!(rt; ": {agreed} rows agree")
+}
+
+// Reads until a buffer is full, the file ends or a read fails. Answers how many bytes of the file are at the buffer's start.
+fn read_full(file: &mut impl Read, buffer: &mut [u8]) -> usize {
+    let mut done: usize = 0;
+    while done < buffer.len() {
+        let Ok(n) = file.read(&mut buffer[done..]) else {
+            return done;
+        };
+        if n == 0 {
+            return done;
+        }
+        done += n;
+    }
+    done
+}
+
+// Reads as much of a file as a buffer has room for, nothing where no file can be opened by that name. Names are UTF-8.
+fn read_start(rt: &impl Files, buffer: &mut [u8], name: &[u8]) -> usize {
+    let Ok(path) = str::from_utf8(name) else {
+        return 0;
+    };
+    let Ok(mut file) = fs::open(rt, path) else {
+        return 0;
+    };
+    read_full(&mut file, buffer)
 }
 
 // Reads a file into the start of a buffer. Answers its length, 0 where it can't be read; a file that fills the buffer is too long.
-pub fn read_file(buffer: &mut [u8], name: &[u8]) -> usize {
-    let file = os::open_read(name);
-    let size = io::read_full(file, buffer);
-    libc::close(file);
+pub fn read_file(rt: &(impl Files + Print), buffer: &mut [u8], name: &[u8]) -> io::Result<usize> {
+    let size = read_start(rt, buffer, name);
     if size < buffer.len() {
-        return size;
+        return Ok(size);
     }
-    say(name);
-    say(b" is too long\n");
-    0
+    say(rt, name)?;
+    say(rt, b" is too long\n")?;
+    Ok(0)
 }
