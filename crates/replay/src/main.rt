@@ -2,14 +2,17 @@
 // row that can't be read disagrees. Each disagreement is printed, and for each file how many of its rows agree. The file wrong has
 // rows that must disagree, of each kind one at least, so a program that compares nothing would print something else.
 #![tactic(auto)]
+
 mod code_rows;
 mod report_rows;
 
-ghost use Rattle.std.specs.Prelude.{◌≤◌};
+ghost use Rattle.std.specs.Prelude.{◌≤◌, IfOk};
 
 use check::same;
 use items::part_at;
 use notation::{after, is_answered, is_row, kind_of, part_to, read_file, read_row, say_agreed};
+use std::io;
+use std::rt::Files;
 use told::Told;
 
 // The kinds of rows. The comments at the functions say what the fields are.
@@ -61,11 +64,17 @@ fn tell(
 }
 
 // Whether the library answers what a row says, given the row that holds its members and a buffer as long as a case may be.
-fn agrees(list: &[u8], row: &[u8], members: &[u8], x: &mut [u8]) -> bool {
+fn agrees(
+    rt: &(impl Files + Print),
+    list: &[u8],
+    row: &[u8],
+    members: &[u8],
+    x: &mut [u8],
+) -> io::Result<bool> {
     let mut y = [0u8; 512];
     let mut v = [0usize; 7];
     let mut text = [b'.'; 2048];
-    let kind = read_row(list, row, members, &mut v, x, &mut y);
+    let kind = read_row(rt, list, row, members, &mut v, x, &mut y)?;
     let told = tell(
         &mut text,
         kind,
@@ -76,19 +85,24 @@ fn agrees(list: &[u8], row: &[u8], members: &[u8], x: &mut [u8]) -> bool {
         v[4],
         v[5],
     );
-    is_answered(list, row, &told, &text)
+    is_answered(rt, list, row, &told, &text)
 }
 
 // 1 for a line that is a row and agrees, else 0.
-fn agreed(line: &[u8], members: &[u8], buffer: &mut [u8]) -> usize
-    ensures { result ≤ 1 }
+fn agreed(
+    rt: &(impl Files + Print),
+    line: &[u8],
+    members: &[u8],
+    buffer: &mut [u8],
+) -> io::Result<usize>
+    ensures { IfOk result (λ n. n ≤ 1) }
 {
     if is_row(line) {
-        if agrees(&kinds(), line, members, buffer) {
-            return 1;
+        if agrees(rt, &kinds(), line, members, buffer)? {
+            return Ok(1);
         }
     }
-    0
+    Ok(0)
 }
 
 // The place of a line that holds the members of the walks behind it, or the one before.
@@ -100,7 +114,7 @@ fn later(line: &[u8], at: usize, before: usize) -> usize {
 }
 
 // Answers how many rows of a file agree. There are no more lines than bytes, and behind the last there is no row.
-fn replay(file: &[u8], buffer: &mut [u8]) -> usize {
+fn replay(rt: &(impl Files + Print), file: &[u8], buffer: &mut [u8]) -> io::Result<usize> {
     let mut at: usize = 0;
     let mut members = file.len();
     let mut agreeing: usize = 0;
@@ -108,11 +122,11 @@ fn replay(file: &[u8], buffer: &mut [u8]) -> usize {
     while 0 < left {
         let line = part_to(file, at, b'\n');
         members = later(line, at, members);
-        agreeing += agreed(line, part_to(file, members, b'\n'), buffer);
+        agreeing += agreed(rt, line, part_to(file, members, b'\n'), buffer)?;
         at = after(at, line);
         left -= 1;
     }
-    agreeing
+    Ok(agreeing)
 }
 
 // As many bytes as a case may have, and one more.
@@ -125,33 +139,37 @@ fn file_room() -> [u8; 2097152] {
 }
 
 // Replays a file of data.
-fn show(name: &[u8]) {
+fn show(rt: &(impl Files + Print), name: &[u8]) -> io::Result<()> {
     let mut file = file_room();
     let mut case = case_room();
-    let size = read_file(&mut file, name);
-    say_agreed(name, replay(part_at(&file, 0, size), &mut case));
+    let size = read_file(rt, &mut file, name)?;
+    let agreeing = replay(rt, part_at(&file, 0, size), &mut case)?;
+    say_agreed(rt, name, agreeing)
 }
 
-fn show_named(name: &[u8]) {
+fn show_named(rt: &(impl Files + Print), name: &[u8]) -> io::Result<()> {
     if 0 < name.len() {
-        show(name);
+        show(rt, name)?;
     }
+    Ok(())
 }
 
 // Shows each file of a list, a line each. There are no more lines than bytes, and behind the last there is no name.
-fn show_all(names: &[u8]) {
+fn show_all(rt: &(impl Files + Print), names: &[u8]) -> io::Result<()> {
     let mut at: usize = 0;
     let mut left = names.len();
     while 0 < left {
         let name = part_to(names, at, b'\n');
-        show_named(name);
+        show_named(rt, name)?;
         at = after(at, name);
         left -= 1;
     }
+    Ok(())
 }
 
-fn main() {
+fn main(rt: HostRuntime) -> io::Result<()> {
     show_all(
+        &rt,
         b"lengths\nleaders\nwalks\nfull\nnames\nlocals\nstrict\nshort\ncases\nlines\nrequests\nsample\nwrong\n",
-    );
+    )
 }
