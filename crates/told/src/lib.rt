@@ -1,6 +1,7 @@
 // What the leaf crates answer to rows of data, in numbers: which of its kind's answers, the numbers of that answer, and last how long
 // the text is that goes with it.
 #![tactic(auto)]
+
 mod case_rows;
 mod name_rows;
 mod strict_rows;

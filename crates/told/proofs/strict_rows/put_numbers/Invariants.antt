@@ -6,7 +6,7 @@ use lib.ListN.{length}
 use Rattle.told.proofs.strict_rows.put_numbers.Given as goal
 
 abbrev pub invariant-loop-i : goal.invariant-loop-i
-invariant-loop-i l = length l.end ≡ length l.initial.out
+invariant-loop-i l = length l.out ≡ length l.initial.out
 
 abbrev pub decreases-loop-i : goal.decreases-loop-i
-decreases-loop-i l = length l.numbers - i
+decreases-loop-i l = length l.numbers - l.i
