@@ -1,5 +1,6 @@
 // The action that failed, in words (document 01, "Action and cause"), written from a place of the output on.
 #![tactic(auto)]
+
 ghost use Rattle.text.specs.Writing.{Written};
 ghost use Rattle.action.specs.Action.{action_text};
 

@@ -1,5 +1,6 @@
 // What a report answers (document 01, "Numbers returned"; document 02, request 11), and how a message reaches the lent output.
 #![tactic(auto)]
+
 ghost use Rattle.std.specs.Prelude.{◌≡◌};
 ghost use Rattle.message.specs.Message.{message_text};
 ghost use Rattle.answer.specs.Answer.{kind_of, said, Delivered};

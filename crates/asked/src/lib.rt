@@ -1,5 +1,6 @@
 // What the program's words ask for: --full the full model, --wording and a number that wording. Named twice, the last holds.
 #![tactic(auto)]
+
 ghost use Rattle.std.specs.Prelude.{◌-◌, ◌≡◌};
 ghost use Rattle.basics.specs.Choice.{pick, between};
 ghost use Rattle.asked.specs.Asked.{decimal_in, word_of, unasked as Unasked, wrongly, after_in, after_word};

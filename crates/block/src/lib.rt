@@ -1,6 +1,7 @@
 // The walk of a block over a lent stack of cells, in either model (document 01, "The walk"; document 02, requests 1
 // and 7).
 #![tactic(auto)]
+
 ghost use Rattle.std.specs.Prelude.{◌≡◌, ◌+◌, ◌<◌, leb, length, take, replicate};
 ghost use Rattle.basics.specs.Choice.{pick};
 ghost use Rattle.fixed.specs.Fixed.{key_length, FixedLengths};

@@ -1,5 +1,6 @@
 // How an opcode bears on blocks (document 01, "Leaders").
 #![tactic(auto)]
+
 ghost use Rattle.std.specs.Prelude.{◌≡◌};
 ghost use Rattle.branch.specs.Branch.{branch_of};
 

@@ -1,6 +1,7 @@
 // How many bytes the instruction at an index of a code takes (document 01, "Measuring an instruction"; document 02, request 6).
 // Every public function takes any code and any index.
 #![tactic(auto)]
+
 ghost use Rattle.std.specs.Prelude.{◌≡◌, ◌+◌, ◌-◌, ◌*◌, ◌^◌, ◌<◌, length};
 ghost use Rattle.basics.specs.Bytes.{byte_at};
 ghost use Rattle.bytecode.specs.Length.{aligned, operands_at, table_bytes, lookup_bytes, wide_bytes};

@@ -7,7 +7,6 @@ use Rattle.items.specs.Text.{text_at, then_text}
 use Rattle.tables.specs.Layout.{members_then, records_then, ended, run_by, then_run}
 use Rattle.casefile.specs.declared.Case.{Case}
 use Rattle.casefile.specs.declared.Case.TheVariants.{Parts, Wrong, TooLong}
-use Rattle.casefile.specs.declared.Places.{Places}
 use Rattle.casefile.specs.declared.TablePlaces.{TablePlaces}
 use Rattle.casefile.specs.declared.Tables.{Tables}
 use Rattle.casefile.specs.declared.Tables.TheVariants as tables

@@ -1,6 +1,7 @@
 // Reading a case (document 01, "The case"): one pass from the first byte to the last, no copy, no byte looked at twice.
 // Any bytes are taken. What cannot be read is answered, never assumed away.
 #![tactic(auto)]
+
 ghost use Rattle.std.specs.Prelude.{◌≡◌};
 ghost use Rattle.casefile.specs.Whole.{tables_at, case_of};
 

@@ -7,12 +7,12 @@ use mathlib.Core.Path.{◌≡◌, refl, ◌∙◌, sym, ap, subst, subst₂}
 use mathlib.Core.Bool.{Bool, true, false}
 use mathlib.Core.List.{List}
 use lib.Dec.{T, ltb}
-use lib.ListN.{length, length-append}
+use lib.ListN.{length}
 use borrow.Author.Tests.{lt-ltb, le-ltb, ltb-true, ltb-false}
 use Rattle.basics.specs.Bytes.{AreBytes}
 use Rattle.basics.specs.Choice.{pick}
-use Rattle.number.specs.Number.{greatest, number_bytes, number_at, then_number}
-use Rattle.items.specs.Text.{text_bytes, text_at, then_text}
+use Rattle.number.specs.Number.{greatest, number_at, then_number}
+use Rattle.items.specs.Text.{text_at, then_text}
 use Rattle.number.specs.declared.Number.{Number}
 use Rattle.number.specs.declared.Number.TheVariants.{Value, NotNumber}
 use Rattle.items.specs.declared.Text.{Text}
@@ -26,14 +26,12 @@ use Rattle.tables.specs.declared.Member.{Member}
 use Rattle.tables.specs.declared.Member.TheVariants as member
 use Rattle.tables.specs.declared.Run.{Run}
 use Rattle.tables.specs.declared.Run.TheVariants.{End, Wrong}
-use Rattle.tables.proofs.Within.{run-within}
 use Rattle.tables.proofs.Runs.{member-then, record-then}
 use Rattle.casefile.specs.Whole.{tables_at, then_tables, places_in, longest, case_of}
 use Rattle.casefile.specs.declared.Case.{Case}
 use Rattle.casefile.specs.declared.Case.TheVariants as answer
 use Rattle.casefile.specs.declared.Tables.{Tables}
 use Rattle.casefile.specs.declared.Tables.TheVariants as tables
-use Rattle.cases.specs.Standing.{Stands}
 use Rattle.cases.specs.FirstWrong.{Reached, start, after_number, after_text, goes_on, ends_here, NothingRight, FirstWrong, FirstWrongDeclared}
 use Rattle.cases.proofs.Items.{number_on, sized_on, may_end_on, may_end_here}
 use Rattle.cases.proofs.Reading.{number_reads, number_stands, text_reads, text_stands}

@@ -9,18 +9,17 @@ use mathlib.Core.Bool.{Bool, true, false}
 use mathlib.Core.Logic.{⊎_elim}
 use mathlib.Core.List.Memᴰ
 use mathlib.Core.List.{List, [], ◌∷◌, ◌++◌, append-nil, Memᴰ}
-use lib.Dec.{eqb, ltb, leb}
+use lib.Dec.{eqb, ltb}
 use lib.ListN.{length, take, drop, length-append}
 use borrow.Author.Tests.{lt-ltb, le-leb, eq-eqb, ne_eqb}
 use Rattle.basics.specs.Choice.{pick}
-use Rattle.number.specs.Number.{greatest, group_or_more, groups_of, number_bytes, number_at}
-use Rattle.items.specs.Text.{text_bytes, text_at, text_part, after_text, class_of, name_of, descriptor_of}
-use Rattle.tables.specs.Layout.{ended, three_texts, run_by}
+use Rattle.number.specs.Number.{greatest, group_or_more, groups_of, number_bytes}
+use Rattle.items.specs.Text.{text_bytes, text_part, after_text, class_of, name_of, descriptor_of}
+use Rattle.tables.specs.Layout.{ended, run_by}
 use Rattle.tables.specs.Member.{member_at}
-use Rattle.lookup.specs.Lookup.{texts_of, member_found}
+use Rattle.lookup.specs.Lookup.{member_found}
 use Rattle.tables.specs.declared.Member.TheVariants.{Read}
-use Rattle.tables.specs.declared.Run.TheVariants.{End}
-use Rattle.cases.specs.LaidOut.{Member, texts_bytes, member_bytes, members_bytes, RightMember, RightMembers, none, more}
+use Rattle.cases.specs.LaidOut.{Member, texts_bytes, member_bytes, members_bytes, RightMember, RightMembers, more}
 use Rattle.cases.specs.Lookup.{◌among◌, found_in, LookupDeclared}
 use Rattle.cases.specs.Standing.{Stands}
 use Rattle.cases.proofs.Items.{texts_on}

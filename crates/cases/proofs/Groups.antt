@@ -7,14 +7,10 @@ use mathlib.Core.Path.{◌≡◌, refl, ◌∙◌, sym, ap, subst₂}
 use mathlib.Core.Bool.{Bool, true, false}
 use mathlib.Core.List.{List, [], ◌∷◌}
 use lib.Dec.{ltb}
-use lib.ListN.{length, take, drop}
-use borrow.Author.Tests.{lt-ltb, le-ltb, ltb-true, ltb-false}
-use Rattle.basics.specs.Bytes.{AreBytes}
+use lib.ListN.{length}
+use borrow.Author.Tests.{ltb-true, ltb-false}
 use Rattle.number.specs.Number.{greatest, group_or_more, groups_of, number_bytes}
-use Rattle.items.specs.Text.{text_bytes, text_at}
-use Rattle.items.specs.declared.Text.TheVariants.{Place}
 use Rattle.cases.specs.Item.{Groups, last, before, NumberDeclared, TextDeclared}
-use Rattle.cases.specs.Standing.{Stands}
 use Rattle.cases.proofs.Reading.{one_group, more_groups, number_reads, number_stands, text_reads, text_part_is, text_stands}
 
 -- groups enough for a number stand for it

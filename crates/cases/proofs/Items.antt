@@ -3,7 +3,7 @@
 -- Assumes nothing.
 use Prim.Native.Nat.{ℕ, zero, suc, ◌+◌, ◌≤◌, ◌<◌}
 use native.Mathlib.Omega.{arith}
-use mathlib.Core.Path.{◌≡◌, refl, ◌∙◌, sym, ap, subst}
+use mathlib.Core.Path.{◌≡◌, refl, ◌∙◌, sym, ap}
 use mathlib.Core.Bool.{Bool, true, false}
 use mathlib.Core.List.{List, [], ◌∷◌, ◌++◌}
 use lib.Dec.{ltb, leb}
@@ -18,7 +18,6 @@ use Rattle.number.specs.declared.Number.TheVariants.{Value, NotNumber}
 use Rattle.items.specs.declared.Text.{Text}
 use Rattle.items.specs.declared.Text.TheVariants.{Place, NotText}
 use Rattle.tables.specs.Layout.{Layout, number, sized, may_end, text, ended, any, three_texts, member_then, members_then, record_then, records_then, run_by}
-use Rattle.tables.specs.declared.Run.{Run}
 use Rattle.tables.specs.declared.Run.TheVariants.{End, Wrong}
 use Rattle.cases.specs.LaidOut.{Member, texts_bytes, member_bytes, members_bytes, RightMember, RightMembers, none, more, Local, record_bytes, records_bytes, RightLocal, RightLocals}
 use Rattle.cases.specs.LaidOut as laid

@@ -1,7 +1,7 @@
 -- Reading what parts lay out to gives these parts, and whatever is accepted is what its parts lay out to.
 -- Rests on: runs one item at a time (Items), the reader as a run of the layout (Declared).
 -- Assumes nothing.
-use Prim.Native.Nat.{ℕ, zero, suc, ◌+◌, ◌-◌, ◌≤◌, ◌<◌}
+use Prim.Native.Nat.{ℕ, ◌+◌, ◌-◌, ◌≤◌}
 use native.Mathlib.Omega.{arith}
 use mathlib.Core.Path.{◌≡◌, refl, ◌∙◌, sym, ap, ap₂, subst}
 use mathlib.Core.Bool.{Bool, true, false}
@@ -11,21 +11,20 @@ use lib.ListN.{length, take, drop, length-append}
 use borrow.Author.Tests.{le-ltb, ltb-false}
 use Rattle.basics.specs.Bytes.{AreBytes}
 use Rattle.basics.specs.Choice.{pick}
-use Rattle.number.specs.Number.{greatest, number_bytes, number_at}
-use Rattle.items.specs.Text.{text_bytes, text_at}
+use Rattle.number.specs.Number.{greatest, number_bytes}
+use Rattle.items.specs.Text.{text_bytes}
 use Rattle.tables.specs.Layout.{Layout, number, text, ended, any, members_then, records_then, tables_then, case_layout, run_by}
 use Rattle.tables.specs.declared.Run.{Run}
 use Rattle.tables.specs.declared.Run.TheVariants.{End, Wrong}
 use Rattle.casefile.specs.Parts.{Parts, case_bytes, parts_of}
 use Rattle.casefile.specs.Whole.{tables_at, places_in, longest, case_of}
-use Rattle.casefile.specs.declared.Case.{Case}
 use Rattle.casefile.specs.declared.Case.TheVariants as answer
 use Rattle.casefile.specs.declared.Places.{Places}
 use Rattle.casefile.specs.declared.TablePlaces.{TablePlaces}
 use Rattle.casefile.specs.declared.Tables.TheVariants as tables
-use Rattle.cases.specs.LaidOut.{Member, members_bytes, MemberRun, Local, records_bytes, RecordRun, LaidOut, ReadsBack, AcceptedIsLaidOut}
+use Rattle.cases.specs.LaidOut.{members_bytes, MemberRun, records_bytes, RecordRun, LaidOut, ReadsBack, AcceptedIsLaidOut}
 use Rattle.cases.specs.Standing.{Stands}
-use Rattle.cases.proofs.Declared.{Verdict, all_right, wrong_at, on_run, on_case, case_run, fits_of, of_short}
+use Rattle.cases.proofs.Declared.{all_right, wrong_at, on_run, on_case, case_run, fits_of, of_short}
 use Rattle.cases.proofs.Items.{members_on, records_on, NumberBefore, TextBefore, MembersBefore, RecordsBefore, number_back, text_back, members_back, records_back}
 use Rattle.cases.proofs.Reading.{first_stands, second_stands, both_stand, standing_part, number_reads, text_reads, text_part_is}
 

@@ -1,11 +1,11 @@
 -- Going from each local record of a run to the next lists exactly the records of the run.
 -- Rests on: what stands is read (Reading).
 -- Assumes nothing.
-use Prim.Native.Nat.{ℕ, ◌+◌, ◌≤◌}
+use Prim.Native.Nat.{ℕ, ◌+◌}
 use native.Mathlib.Omega.{arith}
-use mathlib.Core.Path.{◌≡◌, refl, ◌∙◌, sym, ap, ap₂, subst}
+use mathlib.Core.Path.{◌≡◌, refl, sym, ap₂, subst}
 use mathlib.Core.List.{List, [], ◌∷◌, ◌++◌, append-nil}
-use lib.ListN.{length, take, drop, length-append}
+use lib.ListN.{length, length-append}
 use Rattle.number.specs.Number.{greatest, number_bytes}
 use Rattle.items.specs.Text.{text_bytes}
 use Rattle.tables.specs.LocalRecord.{record_at, records_in}

@@ -1,7 +1,7 @@
 -- The first wrong item is cut by the end, breaks its own rule, or is in excess.
 -- Rests on: the bytes of a number (Groups), what stands (Reading).
 -- Assumes nothing.
-use Prim.Native.Nat.{ℕ, zero, suc, ◌+◌, ◌-◌, ◌*◌, ◌≤◌, ◌<◌}
+use Prim.Native.Nat.{ℕ, zero, suc, ◌+◌, ◌-◌, ◌≤◌, ◌<◌}
 use native.Mathlib.Omega.{arith}
 use native.Mathlib.Nat.{not-suc-le-zero}
 use mathlib.Core.Path.{◌≡◌, refl, ◌∙◌, sym, ap, subst}
@@ -9,14 +9,14 @@ use mathlib.Core.Bool.{Bool, true, false}
 use mathlib.Core.Logic.{⊎_elim, ◌⊎◌, inl, inr}
 use mathlib.Core.List.{List, [], ◌∷◌, ◌++◌}
 use lib.Dec.{T, ltb, leb}
-use lib.ListN.{length, get_or, take, drop, length-append, length-take, length-drop}
+use lib.ListN.{length, get_or, take, drop, length-take, length-drop}
 use lib.Seq.{get_or-drop}
 use borrow.Author.Tests.{ltb-true, ltb-false, leb-true, leb-false}
-use Rattle.basics.specs.Bytes.{byte_at, AreBytes}
+use Rattle.basics.specs.Bytes.{AreBytes}
 use Rattle.number.specs.Number.{greatest, number_bytes}
 use Rattle.items.specs.Text.{text_bytes}
 use Rattle.tables.specs.Layout.{Layout, number, sized, may_end, ended, any}
-use Rattle.cases.specs.FirstWrong.{NothingRight, FirstWrong}
+use Rattle.cases.specs.FirstWrong.{NothingRight}
 use Rattle.cases.specs.Item.{Groups, last, before}
 use Rattle.cases.specs.Reasons.{WrongNumber, cut, long, large, refused, WrongText, size, short, Reason, WrongForAReason}
 use Rattle.cases.specs.Standing.{Stands}

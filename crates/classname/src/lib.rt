@@ -1,5 +1,6 @@
 // Class names, as the messages print them (document 01, "Action and cause").
 #![tactic(auto)]
+
 ghost use Rattle.std.specs.Prelude.{◌≡◌};
 ghost use Rattle.text.specs.Writing.{Written};
 ghost use Rattle.classname.specs.ClassName.{dot_of, dotted, starts_with, class_name};

@@ -1,5 +1,6 @@
 // Copies the topmost cells of a list below others: what dup and its five further forms do to cells (JVMS 6.5).
 #![tactic(auto)]
+
 ghost use Rattle.std.specs.Prelude.{◌≡◌};
 ghost use Rattle.copies.specs.Copies.{copied_below};
 

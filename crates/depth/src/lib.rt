@@ -1,5 +1,6 @@
 // How deep the reference of an array store lies (document 01, "Action and cause").
 #![tactic(auto)]
+
 ghost use Rattle.std.specs.Prelude.{◌≡◌};
 ghost use Rattle.depth.specs.Store.{store_depth};
 

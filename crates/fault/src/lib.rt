@@ -1,6 +1,7 @@
 // What the faulting instruction would have done, and how deep the reference lies that it would have dereferenced (document 01,
 // "Action and cause").
 #![tactic(auto)]
+
 ghost use Rattle.std.specs.Prelude.{◌-◌, ◌≤◌, ◌<◌, ◌≡◌, length};
 ghost use Rattle.depth.specs.Store.{store_depth};
 ghost use Rattle.fault.specs.Decoding.{decoded};

@@ -1,10 +1,9 @@
 -- There is one table of fixed lengths.
 -- Assumes nothing.
-use Prim.Native.Nat.{ℕ, ◌<◌}
+use Prim.Native.Nat.{ℕ}
 use native.Mathlib.Omega.{arith}
 use mathlib.Core.Path.{◌≡◌, ◌∙◌, sym}
 use mathlib.Core.List.{List}
-use lib.ListN.{length}
 use lib.Seq.{ext_get_or}
 use Rattle.fixed.specs.Fixed.{FixedLengths}
 

@@ -1,6 +1,7 @@
 // The lengths that an opcode alone fixes (document 01, "What changes shape"): one table of 256 entries. Those of the reserved opcodes
 // are 0 (document 02, request 6). And the lengths of `wide` before an opcode.
 #![tactic(auto)]
+
 ghost use Rattle.std.specs.Prelude.{◌≡◌};
 ghost use Rattle.basics.specs.Bytes.{byte_at};
 ghost use Rattle.fixed.specs.Fixed.{fixed_length, wide_by, FixedLengths};

@@ -1,5 +1,6 @@
 // A running maximum over leaders (document 01, "What changes shape").
 #![tactic(auto)]
+
 ghost use Rattle.std.specs.Prelude.{◌≡◌, max};
 ghost use Rattle.greatest.specs.Greatest.{up_to, greatest, target};
 

@@ -2,6 +2,7 @@
 // run's start. A table takes any number of cells and need not fit the run: it is made in one pass, and a lookup by it reads
 // no cell that it has not.
 #![tactic(auto)]
+
 ghost use Rattle.std.specs.Prelude.{◌≡◌};
 ghost use Rattle.lookup.specs.Lookup.{member_found};
 ghost use Rattle.index.specs.Index.{skipped, Tabled, Indexed, found_by};

@@ -1,6 +1,7 @@
 // What an instruction does to the slots in a model, its operands read (document 01, "The walk"; document 02, requests
 // 1 and 7).
 #![tactic(auto)]
+
 ghost use Rattle.std.specs.Prelude.{◌≡◌, ◌-◌, ◌≤◌, length};
 ghost use Rattle.effects.specs.Rows.{rows_of, aload as aload_row, aload_far as far_row, gets as gets_row, calls as calls_row, puts as puts_row, makes as makes_row};
 ghost use Rattle.key.specs.Key.{key_from};

@@ -1,6 +1,5 @@
 -- What a key of the code stands for tells it.
 -- Assumes nothing.
-use Prim.Native.Nat.{ℕ}
 use native.Mathlib.Omega.{arith}
 use mathlib.Core.Path.{◌≡◌, ap}
 use Rattle.key.specs.Laws.{KeyFromInjective}

@@ -1,6 +1,6 @@
 -- A key of the code is told by what it stands for, so `key_at` has one answer. Proved in proofs/Laws.antt.
 -- Assumes nothing.
-use Rattle.std.specs.Prelude.{ℕ, ◌<◌, ◌≡◌}
+use Rattle.std.specs.Prelude.{◌<◌, ◌≡◌}
 use Rattle.key.specs.Key.{key_from}
 use Rattle.key.specs.declared.Key.{Key}
 use Rattle.key.specs.declared.Key.TheVariants.{Plain, Wide}

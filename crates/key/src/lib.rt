@@ -1,5 +1,6 @@
 // The instruction at an index of a code as a key of the tables by opcode (document 02, request 7).
 #![tactic(auto)]
+
 ghost use Rattle.std.specs.Prelude.{◌≡◌};
 ghost use Rattle.jvms.specs.Stack.{key_at};
 ghost use Rattle.key.specs.Key.{key_from};

@@ -2,7 +2,6 @@
 -- Assumes nothing.
 use Rattle.std.specs.Prelude.{ℕ, zero, suc, ◌+◌, ◌^◌, List, [], ◌∷◌, ◌++◌}
 use Rattle.basics.specs.Bytes.{byte_at}
-use Rattle.basics.specs.Choice.{pick, one_of, between}
 use Rattle.bytecode.specs.Length.{operands_at, table_entries, lookup_pairs}
 use Rattle.reads.specs.Signed.{i16_at, i32_at}
 use Rattle.branch.specs.Branch.{branch_of}

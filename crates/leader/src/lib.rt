@@ -1,5 +1,6 @@
 // Where the block of a fault begins (document 01, "Leaders"): one pass over the code, and a running maximum.
 #![tactic(auto)]
+
 ghost use Rattle.std.specs.Prelude.{◌≡◌, [], ◌∷◌, ◌+◌, ◌-◌, ◌*◌, ◌^◌, max, ◌≤◌, ◌<◌, length};
 ghost use Rattle.bytecode.specs.Length.{operands_at, bytes_of, length_of};
 ghost use Rattle.greatest.specs.Greatest.{greatest};

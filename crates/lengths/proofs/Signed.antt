@@ -4,14 +4,12 @@ use Prim.Native.Nat.{ℕ, zero, suc, ◌+◌, ◌-◌, ◌*◌, ◌^◌, ◌≤�
 use native.Mathlib.Omega.{arith}
 use mathlib.Core.Path.{◌≡◌, refl, ◌∙◌, sym, ap}
 use mathlib.Core.Bool.{Bool, true, false, cond}
-use mathlib.Core.List.{List}
 use lib.Dec.{ltb}
 use lib.IntN.{ℤ, pos, negsuc, neg_ℤ, sub_ℕ, ◌+ℤ◌, ◌-ℤ◌}
 use lib.IntN.{+ℤ_assoc, +ℤ_comm, +ℤ_invr, +ℤ_idl, neg_ℤ-+ℤ, +ℤ-neg_ℤ_cancel}
-use mir.Val.{to_z, sel}
-use mir.Syntax.{w16, w32}
+use mir.Val.{sel}
 use borrow.Author.Tests.{le-ltb, ltb-true, ltb-false}
-use Rattle.basics.specs.Bytes.{u16_at, u32_at, AreBytes}
+use Rattle.basics.specs.Bytes.{u16_at, u32_at}
 use Rattle.basics.specs.Choice.{pick}
 use Rattle.basics.proofs.Bytes.{u16_below, u32_below}
 use Rattle.jvms.specs.Extent.{natural}

@@ -1,5 +1,6 @@
 // The head of the line that the program prints: the answer and its numbers.
 #![tactic(auto)]
+
 ghost use Rattle.text.specs.Writing.{Written};
 ghost use Rattle.line.specs.Head.{spaced, head_text};
 ghost use Rattle.line.specs.Pieces.{carried, counted};

@@ -1,5 +1,6 @@
 // The name of a local (document 01, "Action and cause"), over the record run and the signature of a case's parts.
 #![tactic(auto)]
+
 ghost use Rattle.std.specs.Prelude.{◌≡◌, ◌++◌, eqb};
 ghost use Rattle.basics.specs.Choice.{both};
 ghost use Rattle.text.specs.Decimal.{decimal};

@@ -1,5 +1,6 @@
 // The member lookup (document 01, "What changes shape"): it hands back the part of the case that holds a member's texts.
 #![tactic(auto)]
+
 ghost use Rattle.std.specs.Prelude.{◌≡◌};
 ghost use Rattle.lookup.specs.Lookup.{member_found};
 

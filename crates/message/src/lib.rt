@@ -1,6 +1,7 @@
 // The message's text (document 01, "Action and cause"), written from a place of the output on. Each function answers the place
 // after its text, also where the output ends before it.
 #![tactic(auto)]
+
 ghost use Rattle.message.specs.Message.{cause_text, message_text};
 ghost use Rattle.text.specs.Writing.{Written};
 

@@ -1,14 +1,11 @@
 -- Texts that a loop writes byte by byte: how long they are, and what stands at each index.
 -- Assumes nothing.
-use Prim.Native.Nat.{ℕ, zero, suc, ◌+◌, ◌*◌, ◌%◌, ◌<◌}
-use native.Mathlib.Nat.{not-suc-le-zero}
+use Prim.Native.Nat.{ℕ, zero, suc, ◌+◌, ◌%◌, ◌<◌}
 use native.Mathlib.Omega.{arith}
-use mathlib.Core.Path.{◌≡◌, refl, ◌∙◌, ap}
-use mathlib.Core.List.{List, [], ◌∷◌}
+use mathlib.Core.Path.{◌≡◌, refl}
 use lib.Dec.{eqb}
 use lib.ListN.{length, get_or}
 use Rattle.basics.specs.Choice.{pick}
-use Rattle.classname.specs.ClassName.{dot_of, dotted}
 use Rattle.names.specs.Names.{bracket_pairs}
 
 pub pairs_length : (n : ℕ) → length (bracket_pairs n) ≡ n + n

@@ -1,6 +1,6 @@
 -- What is left to write of a parameter list, from an index of the descriptor on.
 -- Assumes nothing.
-use Prim.Native.Nat.{ℕ, ◌+◌, ◌≤◌, ◌<◌}
+use Prim.Native.Nat.{ℕ, ◌≤◌, ◌<◌}
 use native.Mathlib.Omega.{arith}
 use mathlib.Core.Path.{◌≡◌, refl, ◌∙◌, sym, ap, subst}
 use mathlib.Core.Bool.{Bool, true, false}
@@ -10,7 +10,7 @@ use lib.ListN.{length}
 use borrow.Author.Tests.{ne_eqb}
 use Rattle.basics.specs.Ascii.{ascii}
 use Rattle.basics.specs.Choice.{pick}
-use Rattle.fieldtype.specs.Types.{Types, over, unread, one, types_at, types_of}
+use Rattle.fieldtype.specs.Types.{over, unread, one, types_at, types_of}
 use Rattle.fieldtype.specs.declared.FieldType.{FieldType}
 use Rattle.text.specs.Writing.{most, Written}
 use Rattle.text.proofs.Writing.{written_then, written_none}

@@ -1,5 +1,6 @@
 // Class names, type names and parameter lists, as the messages print them (document 01, "Action and cause").
 #![tactic(auto)]
+
 ghost use Rattle.std.specs.Prelude.{◌≡◌, [], ◌++◌, ◌-◌, ◌%◌, ◌≤◌, ◌<◌, eqb, length, take, drop, get_or};
 ghost use Rattle.basics.specs.Choice.{pick};
 ghost use Rattle.text.specs.Writing.{Written};

@@ -1,6 +1,7 @@
 // The same name search over a lent run of local records (document 01, "Expected form in each place"), and the filling of such a
 // run from a case's bytes.
 #![tactic(auto)]
+
 ghost use Rattle.std.specs.Prelude.{◌-◌, ◌≡◌, ◌∷◌, [], length};
 ghost use Rattle.tables.specs.LocalRecord.{records_in};
 ghost use Rattle.search.specs.Search.{first_match, name_inside};

@@ -1,5 +1,6 @@
 // The report of a case (document 01, "Numbers returned"): the case is read, then reported on by its parts, in the manner asked for.
 #![tactic(auto)]
+
 ghost use Rattle.std.specs.Prelude.{◌≡◌, length, replicate};
 ghost use Rattle.answer.specs.Answer.{Delivered};
 ghost use Rattle.report.specs.Report.{model_by, document_manner, default_manner, full_manner, parts_by, said_in, report_in, reported_by, report_worded, reported_worded};

@@ -1,5 +1,6 @@
 // What an instruction does to the slots by its key, in either model (document 01, "The walk"; document 02, requests 1 and 7).
 #![tactic(auto)]
+
 ghost use Rattle.std.specs.Prelude.{◌≡◌, ◌+◌, ◌<◌, ◌≤◌};
 ghost use Rattle.effects.specs.Rows.{row_of, added_row, widened_row, rows_of};
 ghost use Rattle.key.specs.Key.{key_from};

@@ -1,13 +1,12 @@
 -- The search answers the first record that matches.
 -- Assumes nothing.
 use Prim.Native.Nat.{ℕ}
-use mathlib.Core.Path.{◌≡◌, refl, ap, subst}
+use mathlib.Core.Path.{◌≡◌, refl, ap}
 use mathlib.Core.Bool.{Bool, true, false}
-use mathlib.Core.List.{List, [], ◌∷◌, ◌++◌}
-use lib.Dec.{T}
+use mathlib.Core.List.{List, [], ◌∷◌}
 use Rattle.basics.specs.Choice.{pick}
 use Rattle.tables.specs.declared.RecordPlace.{RecordPlace}
-use Rattle.search.specs.First.{Matches, FirstOf, Means, FirstMatchDeclared}
+use Rattle.search.specs.First.{Matches, Means, FirstMatchDeclared}
 use Rattle.search.specs.Search.{covers, first_match}
 use Rattle.search.specs.declared.NamePlace.{NamePlace}
 use Rattle.search.specs.declared.NamePlace.TheVariants.{Name, Unnamed}

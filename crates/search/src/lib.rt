@@ -1,5 +1,6 @@
 // The name search over a case's local records (document 01, "Action and cause").
 #![tactic(auto)]
+
 ghost use Rattle.std.specs.Prelude.{◌≡◌, length};
 ghost use Rattle.tables.specs.LocalRecord.{records_in};
 ghost use Rattle.search.specs.Search.{covers, first_match, name_inside};

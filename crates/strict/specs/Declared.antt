@@ -3,7 +3,7 @@
 -- The statements at the end are proved in proofs/ of this crate.
 -- The bytes: 40 `(`, 41 `)`, 59 `;`, 76 `L`, 86 `V`, 91 `[`.
 -- Assumes nothing.
-use Rattle.std.specs.Prelude.{ℕ, ◌+◌, ◌*◌, ◌≤◌, ◌<◌, ◌≡◌, List, [], ◌∷◌, ◌++◌, ◌⊎◌, length, replicate}
+use Rattle.std.specs.Prelude.{ℕ, ◌*◌, ◌≤◌, ◌<◌, ◌≡◌, List, [], ◌∷◌, ◌++◌, ◌⊎◌, length, replicate}
 use Rattle.basics.specs.Parts.{overlaid}
 use Rattle.jvms.specs.Descriptor.{BaseType, FieldType, ReturnType, MethodType}
 use Rattle.jvms.specs.Descriptor.{letter, render, render_all, render_return, render_method}

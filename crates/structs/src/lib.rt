@@ -1,5 +1,6 @@
 // The library's answers as structs of numbers, for C. A number that an answer does not carry is 0.
 #![tactic(auto)]
+
 ghost use Rattle.std.specs.Prelude.{◌≡◌};
 ghost use Rattle.structs.specs.Structs.{low, report_numbers, length_numbers, leader_numbers, slot_numbers, walk_numbers, strict_numbers};
 

@@ -1,27 +1,21 @@
 -- A run of members or of local records, one of them at a time.
 -- Assumes nothing.
-use Prim.Native.Nat.{ℕ, zero, suc, ◌+◌, ◌-◌, ◌≤◌, ◌<◌}
-use native.Mathlib.Omega.{arith}
+use Prim.Native.Nat.{ℕ, zero, suc, ◌+◌, ◌-◌, ◌<◌}
 use native.Mathlib.Nat.{not-suc-le-zero}
 use native.Mathlib.Numerals.{sub-one}
 use mathlib.Core.Path.{◌≡◌, refl}
 use mathlib.Core.Bool.{Bool, true, false}
-use mathlib.Core.List.{List, [], ◌∷◌}
-use lib.Dec.{eqb, ltb, leb}
-use borrow.Author.Tests.{ne_eqb, ltb-true}
-use Rattle.basics.specs.Choice.{pick}
-use Rattle.number.specs.Number.{greatest, number_at, then_number}
+use mathlib.Core.List.{List}
+use lib.Dec.{ltb, leb}
+use Rattle.number.specs.Number.{greatest, number_at}
 use Rattle.items.specs.Text.{text_at, then_text}
 use Rattle.number.specs.declared.Number.{Number}
 use Rattle.number.specs.declared.Number.TheVariants.{Value, NotNumber}
 use Rattle.items.specs.declared.Text.{Text}
 use Rattle.items.specs.declared.Text.TheVariants.{Place, NotText}
 use Rattle.tables.specs.Layout.{Layout, text, three_texts, member_then, members_then, record_then, records_then, ended, run_by, then_run}
-use Rattle.tables.specs.LocalRecord.{record_at, then_record, records_in}
+use Rattle.tables.specs.LocalRecord.{record_at, then_record}
 use Rattle.tables.specs.Member.{member_at, then_member}
-use Rattle.tables.specs.declared.Member.{Member}
-use Rattle.tables.specs.declared.Member.TheVariants as members
-use Rattle.tables.specs.declared.MemberPlace.{MemberPlace}
 use Rattle.tables.specs.declared.Run.{Run}
 use Rattle.tables.specs.declared.Run.TheVariants.{End, Wrong}
 

@@ -1,6 +1,7 @@
 // The tables of a case (document 01, "The case"): its members and its local records, and the lookup of a member. One pass over
 // each, no copy, no byte looked at twice. Every function takes any bytes and any place. What cannot be read is answered.
 #![tactic(auto)]
+
 ghost use Rattle.std.specs.Prelude.{◌≡◌, length};
 ghost use Rattle.tables.specs.Layout.{run_by, run_within, three_texts, members_then, records_then, ended};
 ghost use Rattle.tables.specs.Member.{member_at, member_within};

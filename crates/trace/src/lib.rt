@@ -1,5 +1,6 @@
 // The cause of a fault, traced over the block that it lies in (document 01, "Action and cause").
 #![tactic(auto)]
+
 ghost use Rattle.std.specs.Prelude.{◌-◌, ◌≤◌, ◌≡◌, ltb, length, get_or, replicate};
 ghost use Rattle.basics.specs.Choice.{pick};
 ghost use Rattle.cell.specs.Cell.{unpacked};

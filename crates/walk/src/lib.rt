@@ -1,5 +1,6 @@
 // The walk of a block: the rule stands in specs/, and here is what a walk answers.
 #![tactic(auto)]
+
 #[derive(Clone, Copy)]
 pub enum Walk {
     // The fault was reached: the height of the list, and how many instructions were completed.

@@ -1,7 +1,7 @@
 -- A walk in document 01's model goes alike by document 01's cells and by those in use: it loads no local above 255, and the cells of the
 -- others hold the same by both.
 -- Assumes nothing.
-use Prim.Native.Nat.{ℕ, ◌+◌, ◌-◌, ◌*◌, ◌/◌, ◌%◌, ◌^◌, ◌≤◌, ◌<◌}
+use Prim.Native.Nat.{ℕ, ◌+◌, ◌-◌, ◌/◌, ◌%◌, ◌^◌, ◌<◌}
 use native.Mathlib.Omega.{arith}
 use mathlib.Core.Path.{◌≡◌, refl, ◌∙◌, sym, ap₂}
 use mathlib.Core.Bool.{Bool, true, false}
@@ -25,7 +25,7 @@ use Rattle.descriptor.specs.declared.Slots.TheVariants.{Slots as SlotsOf, Unread
 use Rattle.effects.specs.Lookup.{Known, missing, known, Lookup}
 use Rattle.effects.specs.Rows.{Row, unmodelled, opaque, aload, aload_far, aload_of, carries, keeps, gets, calls, puts, makes, row_of}
 use Rattle.walk.specs.Walk.{not_modelled, cut, blanks, load, Effect, fails, does, getting, putting, making, called, calling, effect_by, cells}
-use Rattle.walks.specs.Cells.{document_cell, document_cells, document_unpacked, SameSlot, PresentWalks}
+use Rattle.walks.specs.Cells.{document_cell, document_cells, SameSlot, PresentWalks}
 use Rattle.walks.specs.Marks.{Related}
 use Rattle.walks.proofs.Alike.{walk_both}
 

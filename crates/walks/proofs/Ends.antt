@@ -6,7 +6,7 @@ use native.Mathlib.Omega.{arith}
 use mathlib.Core.Path.{◌≡◌, refl, ◌∙◌, sym, ap}
 use mathlib.Core.Bool.{Bool, true, false}
 use mathlib.Core.Logic.{⊎_elim}
-use mathlib.Core.List.{List, [], ◌∷◌}
+use mathlib.Core.List.{List, []}
 use lib.Dec.{ltb, eqb}
 use lib.ListN.{length}
 use borrow.Author.Tests.{lt-ltb, le-ltb, eq-eqb, ne_eqb, ltb-true, ltb-false}
@@ -15,7 +15,7 @@ use Rattle.basics.specs.Choice.{pick}
 use Rattle.effects.specs.Agreement.{Sized}
 use Rattle.effects.specs.Lookup.{Lookup}
 use Rattle.effects.specs.Rows.{Row}
-use Rattle.walk.specs.Room.{Completed, completing, completed_from, completed}
+use Rattle.walk.specs.Room.{completing, completed_from, completed}
 use Rattle.walk.specs.Walk.{Reason, overshot, Marks, Outcome, stops, goes, passes, Walked, done, failed, count_of, step, ended, after, walk_from, walk}
 use Rattle.walk.proofs.Step.{stepped, onward}
 use Rattle.walks.specs.Comes.{Comes, first, then, Fails, stopped, passed, behind, Means, WalkDeclared}

@@ -1,6 +1,7 @@
 // The phrases that a message is made of (document 01, "Action and cause"), written from a place of the output on, and the wordings that
 // they have (document 02, request 11). A function that writes answers the place after its text, also where the output ends before it.
 #![tactic(auto)]
+
 ghost use Rattle.std.specs.Prelude.{◌≡◌};
 ghost use Rattle.text.specs.Writing.{Written};
 ghost use Rattle.words.specs.Words.{element_text, quoted, method_text, invoke_text, array_text};

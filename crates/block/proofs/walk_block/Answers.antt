@@ -1,6 +1,6 @@
 -- `block::walk_block` meets its contract. The loop's invariant: the walk from here on is the walk from the leader.
 -- Assumes nothing.
-use Prim.Native.Nat.{◌+◌, ◌-◌, ◌^◌, ◌<◌}
+use Prim.Native.Nat.{◌+◌, ◌^◌, ◌<◌}
 use native.Mathlib.Omega.{arith}
 use lib.ListN.{length}
 use Rattle.basics.specs.Bytes.{AreBytes}

@@ -1,6 +1,5 @@
 -- `classname::put_class_name` meets its contract. One answer for each kind of name.
 -- Assumes nothing.
-use mathlib.Core.Bool.{true, false}
 use mathlib.Core.Path.{◌∙◌, sym}
 use Rattle.basics.specs.Ascii.{ascii}
 use Rattle.classname.specs.ClassName.{class_name}

@@ -1,6 +1,6 @@
 -- `classname::put_dotted` meets its contract. The loop's invariant: so many bytes of the dotted name are written.
 -- Assumes nothing.
-use Prim.Native.Nat.{◌-◌, ◌<◌}
+use Prim.Native.Nat.{◌<◌}
 use native.Mathlib.Omega.{arith}
 use mathlib.Core.Path.{◌≡◌, refl, ◌∙◌, sym}
 use lib.ListN.{length, get_or, length-set}

@@ -3,7 +3,6 @@
 use Prim.Native.Nat.{◌+◌, ◌≤◌}
 use native.Mathlib.Omega.{arith}
 use mathlib.Core.Path.{◌≡◌}
-use mathlib.Core.Logic.{⊎_elim}
 use lib.ListN.{length}
 use borrow.Author.Tests.{le-leb, lt-leb}
 use Rattle.copies.specs.Copies.{copied_below}
@@ -49,20 +48,21 @@ loop-i-init c =
     let room : a.height + a.count ≤ length a.cells.now = omega arith in
     let first = copying.at_first a.cells.now a.height a.count a.under enough room in
     elim c.if-under-eq0.branch [
-    then-under-eq0 w ↦ (
-      omega arith,
-      omega arith,
-      omega arith,
-      copying.copied_stay a.cells.now a.height a.count a.under enough room last w.if-under-eq0.true w.last-is,
-      first,
-    )
-    | else-under-eq0 w ↦ (
-      omega arith,
-      omega arith,
-      omega arith,
-      copying.lower_stay a.cells.now a.height a.count a.under enough room last (omega arith),
-      first,
-    ) ]
+      | then-under-eq0 w ↦ (
+        omega arith,
+        omega arith,
+        omega arith,
+        copying.copied_stay a.cells.now a.height a.count a.under enough room last w.if-under-eq0.true w.last-is,
+        first,
+      )
+      | else-under-eq0 w ↦ (
+        omega arith,
+        omega arith,
+        omega arith,
+        copying.lower_stay a.cells.now a.height a.count a.under enough room last (omega arith),
+        first,
+      )
+    ]
 
 pub loop-i-smaller-then-i-start : goal.loop-i-smaller-then-i-start
 loop-i-smaller-then-i-start c = omega arith

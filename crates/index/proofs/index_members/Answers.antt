@@ -1,7 +1,6 @@
 -- `index::index_members` meets its contract. The invariant: the buckets before this one are filled, and what is left of the
 -- run serves the others.
 -- Assumes nothing.
-use Prim.Native.Nat.{◌-◌}
 use native.Mathlib.Omega.{arith}
 use lib.ListN.{length-set}
 use Rattle.index.proofs.Tables as tables

@@ -1,6 +1,6 @@
 -- `lookup::find_from` meets its contract. The invariant: the lookup finds from here on what it finds from the start.
 -- Assumes nothing.
-use Prim.Native.Nat.{◌-◌, ◌≤◌}
+use Prim.Native.Nat.{◌≤◌}
 use mathlib.Core.Path.{◌≡◌}
 use Rattle.lookup.specs.Lookup.{member_found}
 use Rattle.lookup.proofs.find_from.Given as goal

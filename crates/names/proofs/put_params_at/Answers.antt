@@ -1,6 +1,5 @@
 -- `names::put_params_at` meets its contract. The loop's invariant: what is written and what is left are the whole list.
 -- Assumes nothing.
-use Prim.Native.Nat.{◌-◌}
 use native.Mathlib.Omega.{arith}
 use mathlib.Core.Path.{◌≡◌, refl, ◌∙◌, sym, subst}
 use Rattle.fieldtype.specs.Types.{field_type_at, taken_inside, Inside}

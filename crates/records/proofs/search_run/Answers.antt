@@ -2,13 +2,7 @@
 -- Assumes nothing.
 use Rattle.std.proofs.Common.{◌∙◌, sym, arith}
 use native.Mathlib.Numerals.{add-one}
-use mathlib.Core.Path.{ap}
-use mathlib.Core.List.{List}
-use Prim.Native.Nat.{ℕ}
-use Rattle.search.specs.declared.NamePlace.{NamePlace}
-use Rattle.search.specs.Search.{first_match}
-use Rattle.records.specs.Run.{viewed_all}
-use Rattle.records.proofs.Search.{found_from, found_next, found_over}
+use Rattle.records.proofs.Search.{found_next, found_over}
 use Rattle.records.proofs.search_run.Goals as goal
 
 pub loop-i-preserved : goal.loop-i-preserved

@@ -19,8 +19,12 @@ pub returns-in-Parts : goal.returns-in-Parts
 unfolding report_in reported_by parts_of
 returns-in-Parts c =
     let told = sym c.read_case.ensures ∙ c.in-Parts.is in
-    let on = c.report_parts_in.ensures in record { answers = rw
+    let on = c.report_parts_in.ensures in record {
+      answers = rw
           (told, ← c.part_at-code.ensures, ← c.part_at-signature.ensures, ← c.part_at-members.ensures, ← c.part_at-records.ensures)
-          on.delivers.answers; leaves = rw
-            (told, ← c.part_at-code.ensures, ← c.part_at-signature.ensures, ← c.part_at-members.ensures, ← c.part_at-records.ensures)
-            on.delivers.leaves; clears = on.clears }
+          on.delivers.answers;
+      leaves = rw
+          (told, ← c.part_at-code.ensures, ← c.part_at-signature.ensures, ← c.part_at-members.ensures, ← c.part_at-records.ensures)
+          on.delivers.leaves;
+      clears = on.clears;
+    }

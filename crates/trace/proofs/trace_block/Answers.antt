@@ -56,6 +56,9 @@ returns-in-Done c =
     let done =
     tracing.finished a.scan a.depth room walked _ _
     (sym c.in-Done.is ∙ c.simulate_block_in.ensures.answers) in
-    let size : length c.simulate_block_in.new.stack ≡ room = omega arith in record { answers = tracing.traces a.scan a.depth room walked _ _ done _ c.simulate_block_in.ensures.leaves _
-          c.slot_from-cause.ensures; leaves = tracing.emptied a.scan a.depth room walked _ _ done _ c.simulate_block_in.ensures.leaves size _
-          c.clear.ensures }
+    let size : length c.simulate_block_in.new.stack ≡ room = omega arith in record {
+      answers = tracing.traces a.scan a.depth room walked _ _ done _ c.simulate_block_in.ensures.leaves _
+          c.slot_from-cause.ensures;
+      leaves = tracing.emptied a.scan a.depth room walked _ _ done _ c.simulate_block_in.ensures.leaves size _
+          c.clear.ensures;
+    }

@@ -12,8 +12,11 @@ unfolding traced
 returns-in-Leader c =
     let a = c.args in
     let told = sym c.block_leader.ensures ∙ c.in-Leader.is in
-    let room : ℕ = length a.stack.now in record { answers = c.trace_block.ensures.answers
-          ∙ sym (ap (λ (s : Scan). traced_by a.model a.code.now a.members.now a.count a.fault a.depth room s) told); leaves = c.trace_block.ensures.leaves }
+    let room : ℕ = length a.stack.now in record {
+      answers = c.trace_block.ensures.answers
+          ∙ sym (ap (λ (s : Scan). traced_by a.model a.code.now a.members.now a.count a.fault a.depth room s) told);
+      leaves = c.trace_block.ensures.leaves;
+    }
 
 pub returns-in-Unmeasured : goal.returns-in-Unmeasured
 unfolding traced
