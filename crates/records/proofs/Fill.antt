@@ -12,7 +12,7 @@ use Rattle.tables.specs.LocalRecord.{record_at, records_in, then_record}
 use Rattle.tables.specs.declared.LocalRecord.{LocalRecord as Reading'}
 use Rattle.tables.specs.declared.LocalRecord.TheVariants.{Read, Wrong}
 use Rattle.tables.specs.declared.RecordPlace.{RecordPlace}
-use Rattle.records.specs.Run.{no_more, read_to, next_of, readNext, run_of}
+use Rattle.records.specs.Run.{no_more, read_to, next_of, read_next, run_of}
 use Rattle.records.specs.declared.LocalRecord.{LocalRecord}
 use Rattle.records.specs.declared.Reading.{Reading}
 
@@ -28,11 +28,11 @@ module _ (bytes : List ℕ) (at : ℕ) where
   unread_next zero place wrong = refl
   unread_next (suc left) place wrong = rw wrong
 
-  pub read_next :
+  pub some_next :
       (left : ℕ) (r : RecordPlace) → (left ≡ 0 → ⊥) → record_at bytes at ≡ Read r → read_to r (left - 1) ≡ next_of bytes at left
   unfolding next_of
-  read_next zero r some read = absurd (some refl)
-  read_next (suc left) r some read = rw (read, sub-one)
+  some_next zero r some read = absurd (some refl)
+  some_next (suc left) r some read = rw (read, sub-one)
 
   -- the first record of a run, and the rest of the run
   by_record :
@@ -77,10 +77,10 @@ module _ (bytes : List ℕ) (n : ℕ) where
 
   pub filled_next :
       (i : ℕ) (run : List LocalRecord) (reading : Reading) → i < n → length run ≡ n →
-      filled_to (suc i) (set run i (readNext bytes reading).local) (readNext bytes reading) ≡ filled_to i run reading
+      filled_to (suc i) (set run i (read_next bytes reading).local) (read_next bytes reading) ≡ filled_to i run reading
   filled_next i run reading l size =
-      stepped run (run_of (n - suc i) (records_in bytes (readNext bytes reading).left (readNext bytes reading).at)) i
-      (readNext bytes reading).local (omega (arith, l, size))
+      stepped run (run_of (n - suc i) (records_in bytes (read_next bytes reading).left (read_next bytes reading).at)) i
+      (read_next bytes reading).local (omega (arith, l, size))
       ∙ ap (λ (zs : List LocalRecord). take i run ++ zs) (sym (run_next bytes reading.at (n - suc i) reading.left))
       ∙ ap (λ (k : ℕ). take i run ++ run_of k (records_in bytes reading.left reading.at)) one_more
     where

@@ -63,5 +63,5 @@ unfoldable pub next_of : List ℕ → ℕ → ℕ → Reading
 next_of bytes at zero = no_more
 next_of bytes at (suc left) = then_record (record_at bytes at) (λ place. no_more) (λ place. read_to place left)
 
-abbrev pub readNext : List ℕ → Reading → Reading
-readNext bytes reading = next_of bytes reading.at reading.left
+abbrev pub read_next : List ℕ → Reading → Reading
+read_next bytes reading = next_of bytes reading.at reading.left

@@ -5,7 +5,7 @@
 ghost use Rattle.std.specs.Prelude.{◌-◌, ◌≡◌, ◌∷◌, [], length};
 ghost use Rattle.tables.specs.LocalRecord.{records_in};
 ghost use Rattle.search.specs.Search.{first_match, name_inside};
-ghost use Rattle.records.specs.Run.{viewed, viewed_all, or_else, readNext, run_of};
+ghost use Rattle.records.specs.Run.{viewed, viewed_all, or_else, read_next, run_of};
 
 use search::{NamePlace, covers_load};
 
@@ -82,7 +82,7 @@ pub fn search_run(run: &[LocalRecord], slot: usize, load: usize) -> NamePlace
 
 // The record at the place that is reached, and what is reached after it; a blank one, and no more, where there is none to read.
 fn read_next(bytes: &[u8], reading: Reading) -> Reading
-    ensures { result ≡ readNext bytes.now reading }
+    ensures { result ≡ read_next bytes.now reading }
 {
     if reading.left == 0 {
         return NO_MORE;

@@ -1,7 +1,7 @@
 -- `records::read_next` meets its contract. A record that can't be read, or none left, ends the records.
 -- Assumes nothing.
 use mathlib.Core.Path.{◌∙◌, sym}
-use Rattle.records.proofs.Fill.{none_next, unread_next, read_next}
+use Rattle.records.proofs.Fill.{none_next, unread_next, some_next}
 use Rattle.records.proofs.read_next.Goals as goal
 
 pub returns-then-reading-eq0 : goal.returns-then-reading-eq0
@@ -18,6 +18,6 @@ returns-in_default c =
 pub returns : goal.returns
 returns c =
     let a = c.args in
-    read_next a.bytes.now a.reading.at a.reading.left c.in-Read.place
+    some_next a.bytes.now a.reading.at a.reading.left c.in-Read.place
     c.if-reading-eq0.false
     (sym c.read_record.ensures.0 ∙ c.in-Read.is)
