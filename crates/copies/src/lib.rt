@@ -23,7 +23,8 @@ pub fn copy_below(cells: &mut [u64], height: usize, count: usize, under: usize)
     }
     let start = height - count - under;
     // where none lie under them, the copied cells stay in their places
-    let last = if under == 0 { height } else { start };
+    let none = under == 0;
+    let last = if none { height } else { start };
     let mut i = height + count;
     while last < i {
         i -= 1;

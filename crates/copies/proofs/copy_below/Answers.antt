@@ -8,7 +8,7 @@ use borrow.Author.Tests.{le-leb, lt-leb}
 use Rattle.copies.specs.Copies.{copied_below}
 use Rattle.copies.proofs.Copying as copying
 use Rattle.copies.proofs.copy_below.Goals as goal
-use Rattle.copies.proofs.copy_below.Goals.{then-under-eq0, else-under-eq0}
+use Rattle.copies.proofs.copy_below.Goals.{then-none, else-none}
 
 pub returns-then-height-count : goal.returns-then-height-count
 unfolding copied_below
@@ -42,20 +42,20 @@ returns-then-cells-height-2 c =
 
 pub loop-i-init : goal.loop-i-init
 loop-i-init c =
-    let last = c.if-under-eq0.last in
+    let last = c.if-none.last in
     let a = c.args in
     let enough : a.count + a.under ≤ a.height = omega arith in
     let room : a.height + a.count ≤ length a.cells.now = omega arith in
     let first = copying.at_first a.cells.now a.height a.count a.under enough room in
-    elim c.if-under-eq0.branch [
-      | then-under-eq0 w ↦ (
+    elim c.if-none.branch [
+      | then-none w ↦ (
         omega arith,
         omega arith,
         omega arith,
-        copying.copied_stay a.cells.now a.height a.count a.under enough room last w.if-under-eq0.true w.last-is,
+        copying.copied_stay a.cells.now a.height a.count a.under enough room last w.if-none.true w.last-is,
         first,
       )
-      | else-under-eq0 w ↦ (
+      | else-none w ↦ (
         omega arith,
         omega arith,
         omega arith,
@@ -99,7 +99,7 @@ unfolding copied_below
 returns c =
     let at = c.loop-i in
     let a = c.args in
-    let ends : c.if-under-eq0.last ≡ at.i = omega arith in
+    let ends : c.if-none.last ≡ at.i = omega arith in
     rw (
       le-leb (a.count + a.under) a.height (omega arith),
       le-leb (a.height + a.count) (length a.cells.now) (omega arith),
