@@ -1,0 +1,279 @@
+// The Code of a method (JVMS 4.7.3) with its exception table and its local tables (JVMS 4.7.13), judged by the format. Every function takes
+// any file, any table of the pool's places, any place and any limit.
+#![tactic(auto)]
+
+ghost use Rattle.std.specs.Prelude.{◌≡◌};
+ghost use Rattle.basics.specs.Choice.{between};
+ghost use Rattle.entries.specs.Entries.{names_by};
+ghost use Rattle.format.specs.Format.{times, read_by};
+ghost use Rattle.format.specs.Items.{run_of};
+ghost use Rattle.classformat.specs.ClassFile.{handler_format, local_format, local_table_format, code_attribute_format, code_end_format, code_tables_format, code_format};
+ghost use Rattle.bodies.specs.Body.{record_told, code_told};
+
+use attributes::pass_over;
+use entries::{is_name, is_named};
+use format::{Item, Window, bytes_to, read_u2, read_window};
+use tables::Run;
+
+// The longest code (JVMS 4.7.3).
+const LONGEST: usize = 65535;
+
+// A method's code: where its instructions start, how many bytes they are, and where the attribute ends.
+#[derive(Clone, Copy)]
+pub struct CodePlace {
+    pub start: usize,
+    pub size: usize,
+    pub stop: usize,
+}
+
+// An entry of a local table: where its local is in scope and for how many bytes, the pool number of its name, its slot, and the place after
+// it.
+#[derive(Clone, Copy)]
+pub struct LocalPlace {
+    pub start: usize,
+    pub size: usize,
+    pub name: usize,
+    pub slot: usize,
+    pub next: usize,
+}
+
+// What reading an entry of a local table answers.
+#[derive(Clone, Copy)]
+pub enum LocalRead {
+    Read(LocalPlace),
+    // The place of the first wrong item.
+    Wrong(usize),
+}
+
+// What reading a Code answers.
+#[derive(Clone, Copy)]
+pub enum CodeRead {
+    // The code, and the place after its attribute.
+    Read(CodePlace, usize),
+    // The place of the first wrong item.
+    Wrong(usize),
+}
+
+// Whether instructions can be so many bytes.
+fn is_code_length(size: usize) -> bool
+    ensures { result ≡ between 1 65535 size }
+{
+    if 1 <= size {
+        return size <= LONGEST;
+    }
+    false
+}
+
+// An entry of an exception table.
+fn read_handler(file: &[u8], at: usize, limit: usize) -> Run
+    ensures { result ≡ run_of (read_by (handler_format limit) file.now at) }
+{
+    let Item::Value(_, end_at) = read_u2(file, at, limit) else {
+        return Run::Wrong(at);
+    };
+    let Item::Value(_, handler_at) = read_u2(file, end_at, limit) else {
+        return Run::Wrong(end_at);
+    };
+    let Item::Value(_, caught_at) = read_u2(file, handler_at, limit) else {
+        return Run::Wrong(handler_at);
+    };
+    let Item::Value(_, next) = read_u2(file, caught_at, limit) else {
+        return Run::Wrong(caught_at);
+    };
+    Run::End(next)
+}
+
+// So many entries of an exception table.
+pub fn read_handlers(file: &[u8], from: usize, count: usize, limit: usize) -> Run
+    ensures { result ≡ run_of (read_by (times count (handler_format limit)) file.now from) }
+{
+    let mut at = from;
+    let mut left = count;
+    while 0 < left {
+        match read_handler(file, at, limit) {
+            Run::End(next) => {
+                at = next;
+            }
+            Run::Wrong(wrong) => {
+                return Run::Wrong(wrong);
+            }
+        }
+        left -= 1;
+    }
+    Run::End(at)
+}
+
+// An entry of a local table.
+pub fn read_local(file: &[u8], table: &[usize], at: usize, limit: usize) -> LocalRead
+    ensures { result ≡ record_told (read_by (local_format (names_by file.now table.now) limit) file.now at) }
+{
+    let Item::Value(start, size_at) = read_u2(file, at, limit) else {
+        return LocalRead::Wrong(at);
+    };
+    let Item::Value(size, name_at) = read_u2(file, size_at, limit) else {
+        return LocalRead::Wrong(size_at);
+    };
+    let Item::Value(name, descriptor_at) = read_u2(file, name_at, limit) else {
+        return LocalRead::Wrong(name_at);
+    };
+    if is_name(file, table, name) {
+        let Item::Value(_, slot_at) = read_u2(file, descriptor_at, limit) else {
+            return LocalRead::Wrong(descriptor_at);
+        };
+        let Item::Value(slot, next) = read_u2(file, slot_at, limit) else {
+            return LocalRead::Wrong(slot_at);
+        };
+        return LocalRead::Read(LocalPlace {
+            start,
+            size,
+            name,
+            slot,
+            next,
+        });
+    }
+    LocalRead::Wrong(name_at)
+}
+
+// So many entries of a local table.
+fn read_locals(file: &[u8], table: &[usize], from: usize, count: usize, limit: usize) -> Run
+    ensures { result ≡ run_of (read_by (times count (local_format (names_by file.now table.now) limit))
+        file.now from) }
+{
+    let mut at = from;
+    let mut left = count;
+    while 0 < left {
+        match read_local(file, table, at, limit) {
+            LocalRead::Read(local) => {
+                at = local.next;
+            }
+            LocalRead::Wrong(wrong) => {
+                return Run::Wrong(wrong);
+            }
+        }
+        left -= 1;
+    }
+    Run::End(at)
+}
+
+// A local table, from its count on, that has to fill its attribute.
+fn read_local_table(file: &[u8], table: &[usize], at: usize, limit: usize) -> Run
+    ensures { result ≡ run_of (read_by (local_table_format (names_by file.now table.now) limit) file.now at) }
+{
+    let Item::Value(count, from) = read_u2(file, at, limit) else {
+        return Run::Wrong(at);
+    };
+    match read_locals(file, table, from, count, limit) {
+        Run::End(next) => {
+            if next < limit {
+                return Run::Wrong(next);
+            }
+            Run::End(next)
+        }
+        Run::Wrong(wrong) => Run::Wrong(wrong),
+    }
+}
+
+// An attribute of a Code.
+fn read_code_attribute(file: &[u8], table: &[usize], at: usize, limit: usize) -> Run
+    ensures { result ≡ run_of (read_by (code_attribute_format (names_by file.now table.now) limit) file.now at) }
+{
+    let Item::Value(name, length_at) = read_u2(file, at, limit) else {
+        return Run::Wrong(at);
+    };
+    if is_name(file, table, name) {
+        if is_named(file, table, name, b"LocalVariableTable") {
+            let Window::Inside(start, stop) = read_window(file, length_at, limit) else {
+                return Run::Wrong(length_at);
+            };
+            return read_local_table(file, table, start, stop);
+        }
+        return pass_over(file, length_at, limit);
+    }
+    Run::Wrong(at)
+}
+
+// So many attributes of a Code.
+fn read_code_attributes(
+    file: &[u8],
+    table: &[usize],
+    from: usize,
+    count: usize,
+    limit: usize,
+) -> Run
+    ensures { result ≡ run_of (read_by (times count (code_attribute_format (names_by file.now table.now) limit))
+        file.now from) }
+{
+    let mut at = from;
+    let mut left = count;
+    while 0 < left {
+        match read_code_attribute(file, table, at, limit) {
+            Run::End(next) => {
+                at = next;
+            }
+            Run::Wrong(wrong) => {
+                return Run::Wrong(wrong);
+            }
+        }
+        left -= 1;
+    }
+    Run::End(at)
+}
+
+// The attributes of a Code, from their count on, which have to fill it.
+pub fn read_code_end(file: &[u8], table: &[usize], at: usize, limit: usize) -> Run
+    ensures { result ≡ run_of (read_by (code_end_format (names_by file.now table.now) limit) file.now at) }
+{
+    let Item::Value(count, from) = read_u2(file, at, limit) else {
+        return Run::Wrong(at);
+    };
+    match read_code_attributes(file, table, from, count, limit) {
+        Run::End(next) => {
+            if next < limit {
+                return Run::Wrong(next);
+            }
+            Run::End(next)
+        }
+        Run::Wrong(wrong) => Run::Wrong(wrong),
+    }
+}
+
+// The tables of a Code, behind its instructions.
+pub fn read_tables(file: &[u8], table: &[usize], at: usize, limit: usize) -> Run
+    ensures { result ≡ run_of (read_by (code_tables_format (names_by file.now table.now) limit) file.now at) }
+{
+    let Item::Value(count, from) = read_u2(file, at, limit) else {
+        return Run::Wrong(at);
+    };
+    match read_handlers(file, from, count, limit) {
+        Run::End(next) => read_code_end(file, table, next, limit),
+        Run::Wrong(wrong) => Run::Wrong(wrong),
+    }
+}
+
+// A Code, from behind its attribute's length to a limit, which is where the attribute ends.
+pub fn read_code(file: &[u8], table: &[usize], at: usize, limit: usize) -> CodeRead
+    ensures { result ≡ code_told (read_by (code_format (names_by file.now table.now) limit) file.now at) }
+{
+    let Item::Value(_, locals_at) = read_u2(file, at, limit) else {
+        return CodeRead::Wrong(at);
+    };
+    let Item::Value(_, code_at) = read_u2(file, locals_at, limit) else {
+        return CodeRead::Wrong(locals_at);
+    };
+    let Window::Inside(start, stop) = read_window(file, code_at, limit) else {
+        return CodeRead::Wrong(code_at);
+    };
+    let size = bytes_to(stop, start);
+    if is_code_length(size) {
+        match read_tables(file, table, stop, limit) {
+            Run::End(next) => {
+                let stop = limit;
+                return CodeRead::Read(CodePlace { start, size, stop }, next);
+            }
+            Run::Wrong(wrong) => {
+                return CodeRead::Wrong(wrong);
+            }
+        }
+    }
+    CodeRead::Wrong(code_at)
+}

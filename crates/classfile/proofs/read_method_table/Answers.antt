@@ -1,0 +1,42 @@
+-- `classfile::read_method_table` meets its contract.
+-- Assumes nothing.
+use Prim.Native.Nat.{ℕ}
+use mathlib.Core.Path.{refl, ◌∙◌, sym, ap}
+use Rattle.format.proofs.Items.{told, number_cut, number_right, told_here, ended, then-read, then_right, then_wrong, all_done}
+use Rattle.format.proofs.Was.{so_many}
+use Rattle.classformat.specs.ClassFile.{method_format, methods_format}
+use Rattle.entries.specs.Entries.{names_by}
+use Rattle.format.specs.Format.{times, read_by}
+use Rattle.classfile.specs.Class.{methods_told}
+use Rattle.classfile.specs.declared.MethodsRead.TheVariants.{Read}
+use Rattle.classfile.proofs.read_method_table.Goals as goal
+
+pub returns-in_default : goal.returns-in_default
+unfolding methods_format
+returns-in_default c =
+    let a = c.args in
+    told methods_told (methods_format (names_by a.file.now a.table.now) a.limit) (number_cut (sym c.read_u2.ensures ∙ c.in_default.is))
+
+pub returns-in-End-read_end : goal.returns-in-End-read_end
+unfolding methods_format
+returns-in-End-read_end c =
+    let a = c.args in
+    let count = sym c.read_u2.ensures ∙ c.in-Value.is in
+    let read = ended (read_by (times c.in-Value.count (method_format (names_by a.file.now a.table.now) a.limit)) a.file.now c.in-Value.from) (sym c.read_methods.ensures ∙ c.in-End.is) in
+    ap (λ (n : ℕ). Read c.in-Value.from n) (sym (so_many (method_format (names_by a.file.now a.table.now) a.limit) c.in-Value.count a.file.now c.in-Value.from read.1))
+    ∙ told methods_told (methods_format (names_by a.file.now a.table.now) a.limit) (number_right count refl (told_here (then-read _ _ read.1 (then_right _ _ (sym c.read_end.ensures ∙ c.in-End-read_end.is) (λ end. all_done)))))
+
+pub returns-in-Wrong-read_end : goal.returns-in-Wrong-read_end
+unfolding methods_format
+returns-in-Wrong-read_end c =
+    let a = c.args in
+    let count = sym c.read_u2.ensures ∙ c.in-Value.is in
+    let read = ended (read_by (times c.in-Value.count (method_format (names_by a.file.now a.table.now) a.limit)) a.file.now c.in-Value.from) (sym c.read_methods.ensures ∙ c.in-End.is) in
+    told methods_told (methods_format (names_by a.file.now a.table.now) a.limit) (number_right count refl (told_here (then-read _ _ read.1 (then_wrong _ _ (sym c.read_end.ensures ∙ c.in-Wrong-read_end.is)))))
+
+pub returns-in-Wrong : goal.returns-in-Wrong
+unfolding methods_format
+returns-in-Wrong c =
+    let a = c.args in
+    let count = sym c.read_u2.ensures ∙ c.in-Value.is in
+    told methods_told (methods_format (names_by a.file.now a.table.now) a.limit) (number_right count refl (told_here (then_wrong _ _ (sym c.read_methods.ensures ∙ c.in-Wrong.is))))

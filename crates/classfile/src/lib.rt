@@ -1,0 +1,173 @@
+// A class file (JVMS 4.1), judged whole by the format. A lent table takes the places of the constant pool's entries.
+#![tactic(auto)]
+
+ghost use Rattle.std.specs.Prelude.{◌≡◌, ◌≤◌, length};
+ghost use Rattle.basics.specs.Bytes.{u16_at};
+ghost use Rattle.entries.specs.Entries.{names_by};
+ghost use Rattle.format.specs.Format.{read_by};
+ghost use Rattle.format.specs.Items.{run_of};
+ghost use Rattle.classformat.specs.ClassFile.{start_format, head_format, fields_format, end_format, methods_format, rest_format, class_format};
+ghost use Rattle.classfile.specs.Class.{start_told, methods_told, class_told, start_table, class_by};
+
+use attributes::{read_attributes, read_fields, read_interfaces};
+use format::{Item, read_u2, read_u4};
+use methods::read_methods;
+use pool::read_pool;
+use tables::Run;
+
+// The first four bytes of every class file.
+const MAGIC: usize = 0xcafebabe;
+
+// What reading the start of a class file answers.
+#[derive(Clone, Copy)]
+pub enum StartRead {
+    // The major version, and the place after the constant pool.
+    Read { major: usize, next: usize },
+    // The place of the first wrong item.
+    Wrong(usize),
+}
+
+// What reading the methods of a class file answers.
+#[derive(Clone, Copy)]
+pub enum MethodsRead {
+    // Where the first one stands, and how many they are.
+    Read { from: usize, count: usize },
+    // The place of the first wrong item.
+    Wrong(usize),
+}
+
+// What reading a class file answers.
+#[derive(Clone, Copy)]
+pub enum ClassRead {
+    // The major version, where the first method stands, and how many methods there are.
+    Read {
+        major: usize,
+        from: usize,
+        count: usize,
+    },
+    // The place of the first wrong item.
+    Wrong(usize),
+}
+
+// Magic, version and constant pool.
+fn read_start(file: &[u8], table: &mut [usize]) -> StartRead
+    ensures answers { result ≡ start_told (read_by (start_format (length file.now)) file.now 0) }
+    ensures keeps { table.new ≡ start_table file.now table.old }
+{
+    let limit = file.len();
+    let Item::Value(magic, minor_at) = read_u4(file, 0, limit) else {
+        return StartRead::Wrong(0);
+    };
+    if magic == MAGIC {
+        let Item::Value(_, major_at) = read_u2(file, minor_at, limit) else {
+            return StartRead::Wrong(minor_at);
+        };
+        let Item::Value(major, count_at) = read_u2(file, major_at, limit) else {
+            return StartRead::Wrong(major_at);
+        };
+        let Item::Value(count, _) = read_u2(file, count_at, limit) else {
+            return StartRead::Wrong(count_at);
+        };
+        if 0 < count {
+            return match read_pool(file, count, table) {
+                Run::End(next) => StartRead::Read { major, next },
+                Run::Wrong(wrong) => StartRead::Wrong(wrong),
+            };
+        }
+        return StartRead::Wrong(count_at);
+    }
+    StartRead::Wrong(0)
+}
+
+// What stands between the constant pool and the fields.
+fn read_head(file: &[u8], at: usize, limit: usize) -> Run
+    ensures { result ≡ run_of (read_by (head_format limit) file.now at) }
+{
+    let Item::Value(_, this_at) = read_u2(file, at, limit) else {
+        return Run::Wrong(at);
+    };
+    let Item::Value(_, super_at) = read_u2(file, this_at, limit) else {
+        return Run::Wrong(this_at);
+    };
+    let Item::Value(_, count_at) = read_u2(file, super_at, limit) else {
+        return Run::Wrong(super_at);
+    };
+    let Item::Value(count, from) = read_u2(file, count_at, limit) else {
+        return Run::Wrong(count_at);
+    };
+    read_interfaces(file, from, count, limit)
+}
+
+// The fields, from their count on.
+fn read_field_table(file: &[u8], table: &[usize], at: usize, limit: usize) -> Run
+    ensures { result ≡ run_of (read_by (fields_format (names_by file.now table.now) limit) file.now at) }
+{
+    let Item::Value(count, from) = read_u2(file, at, limit) else {
+        return Run::Wrong(at);
+    };
+    read_fields(file, table, from, count, limit)
+}
+
+// The attributes of the class, from their count on, behind which nothing stands.
+fn read_end(file: &[u8], table: &[usize], at: usize, limit: usize) -> Run
+    ensures { result ≡ run_of (read_by (end_format (names_by file.now table.now) limit) file.now at) }
+{
+    let Item::Value(count, from) = read_u2(file, at, limit) else {
+        return Run::Wrong(at);
+    };
+    match read_attributes(file, table, from, count, limit) {
+        Run::End(next) => {
+            if next < limit {
+                return Run::Wrong(next);
+            }
+            Run::End(next)
+        }
+        Run::Wrong(wrong) => Run::Wrong(wrong),
+    }
+}
+
+// The methods, from their count on, and what stands behind them.
+fn read_method_table(file: &[u8], table: &[usize], at: usize, limit: usize) -> MethodsRead
+    ensures { result ≡ methods_told (read_by (methods_format (names_by file.now table.now) limit) file.now at) }
+{
+    let Item::Value(count, from) = read_u2(file, at, limit) else {
+        return MethodsRead::Wrong(at);
+    };
+    match read_methods(file, table, from, count, limit) {
+        Run::End(next) => match read_end(file, table, next, limit) {
+            Run::End(_) => MethodsRead::Read { from, count },
+            Run::Wrong(wrong) => MethodsRead::Wrong(wrong),
+        },
+        Run::Wrong(wrong) => MethodsRead::Wrong(wrong),
+    }
+}
+
+// What stands behind the constant pool.
+fn read_rest(file: &[u8], table: &[usize], at: usize, limit: usize) -> MethodsRead
+    ensures { result ≡ methods_told (read_by (rest_format (names_by file.now table.now) limit) file.now at) }
+{
+    match read_head(file, at, limit) {
+        Run::End(fields_at) => match read_field_table(file, table, fields_at, limit) {
+            Run::End(methods_at) => read_method_table(file, table, methods_at, limit),
+            Run::Wrong(wrong) => MethodsRead::Wrong(wrong),
+        },
+        Run::Wrong(wrong) => MethodsRead::Wrong(wrong),
+    }
+}
+
+// Reads a class file. With a cell for each pool number the answer is the format's, and where the file is right the table then serves its pool.
+// With fewer cells, a number that has none leads to nothing.
+pub fn read_class(file: &[u8], table: &mut [usize]) -> ClassRead
+    ensures shows { result ≡ class_told (read_by (class_by file.now table.new) file.now 0) }
+    ensures keeps { table.new ≡ start_table file.now table.old }
+    ensures answers { u16_at file.now 8 ≤ length table.old →
+        result ≡ class_told (read_by (class_format file.now) file.now 0) }
+{
+    match read_start(file, table) {
+        StartRead::Read { major, next } => match read_rest(file, table, next, file.len()) {
+            MethodsRead::Read { from, count } => ClassRead::Read { major, from, count },
+            MethodsRead::Wrong(wrong) => ClassRead::Wrong(wrong),
+        },
+        StartRead::Wrong(wrong) => ClassRead::Wrong(wrong),
+    }
+}

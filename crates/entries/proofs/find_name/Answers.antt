@@ -1,0 +1,16 @@
+-- `entries::find_name` meets its contract.
+-- Assumes nothing.
+use mathlib.Core.Path.{◌∙◌, sym, ap}
+use Rattle.format.specs.Format.{bytes_at}
+use Rattle.classformat.proofs.Unlike.{no-text}
+use Rattle.classformat.specs.declared.Entry.{Entry}
+use Rattle.classformat.specs.Contents.{nameless, named, name_of, spelled}
+use Rattle.entries.proofs.find_name.Goals as goal
+
+pub returns-in_default : goal.returns-in_default
+returns-in_default c =
+    let e = c.entry_at in let file = c.args.file.now in sym (ap (λ (x : Entry). spelled (name_of file x)) (sym e.ensures) ∙ ap spelled (no-text nameless (λ start size. named (bytes_at file start size)) e.result c.in_default.not-Text))
+
+pub returns : goal.returns
+returns c =
+    let e = c.entry_at in let file = c.args.file.now in c.part_at.ensures ∙ ap (λ (x : Entry). spelled (name_of file x)) (sym c.in-Text.is ∙ e.ensures)

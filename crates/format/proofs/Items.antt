@@ -1,0 +1,293 @@
+-- Reading item by item: what is told of a reading, by the answers of its items' readers. Each rule goes from what is due to what is due
+-- behind it, so that the proof of a reader is the list of its items.
+-- Assumes nothing.
+use Prim.Native.Nat.{ℕ, zero, suc, ◌+◌, ◌-◌, ◌≤◌, ◌<◌}
+use native.Mathlib.Omega.{arith}
+use mathlib.Core.Path.{◌≡◌, refl, ◌∙◌, sym, ap, subst}
+use mathlib.Core.Bool.{Bool, true, false}
+use mathlib.Core.List.{List, ◌∷◌}
+use lib.Dec.{leb}
+use borrow.Author.Tests.{le-leb, lt-leb, leb-true, leb-false}
+use Rattle.basics.specs.Bytes.{u16_at, u32_at}
+use Rattle.basics.specs.Choice.{pick, both}
+use Rattle.tables.specs.declared.Run.TheVariants.{End, Wrong}
+use Rattle.format.specs.Format.{Format, number, text, window as windowed, full, here, done, and_then, times, each, number_at, bytes_at, Reading, right, wrong, then_read, go_on, window_right, read_by}
+use Rattle.format.specs.Items.{item_at, window_at, run_of}
+use Rattle.format.specs.declared.Item.{Item}
+use Rattle.format.specs.declared.Item.TheVariants.{Value, Cut}
+use Rattle.format.specs.declared.Window.{Window}
+use Rattle.format.specs.declared.Window.TheVariants as window
+use Rattle.format.proofs.Reading.{read_then}
+
+-- ---- numbers of two and of four bytes
+
+pub two_bytes : (file : List ℕ) (at : ℕ) → number_at 2 file at ≡ u16_at file at
+unfolding number_at u16_at
+two_bytes file at = omega arith
+
+pub four_bytes : (file : List ℕ) (at : ℕ) → number_at 4 file at ≡ u32_at file at
+unfolding number_at u16_at u32_at
+four_bytes file at =
+    let second : at + 1 + 1 ≡ at + 2 = omega arith in
+    let third : at + 2 + 1 ≡ at + 3 = omega arith in
+    rw (second, third) (omega arith)
+
+-- ---- what an item's reader says of the file
+
+module _ (width limit : ℕ) (file : List ℕ) (at : ℕ) where
+  pub item_is :
+      {v next : ℕ} → item_at width limit file at ≡ Value v next → (at + width ≤ limit) × (number_at width file at ≡ v) × (at + width ≡ next)
+  unfolding item_at
+  item_is {v} {next} is = by (leb (at + width) limit) refl is
+    where
+      by :
+          (t : Bool) → leb (at + width) limit ≡ t → pick t (Value (number_at width file at) (at + width)) Cut ≡ Value v next →
+          (at + width ≤ limit) × (number_at width file at ≡ v) × (at + width ≡ next)
+      by true fits e =
+          let value : number_at width file at ≡ v = cc in
+          let place : at + width ≡ next = cc in
+          (leb-true (at + width) limit fits, value, place)
+      by false cut e = let z : ◌≡◌ {A = ℕ} 0 1 = cc in absurd (omega arith)
+
+  pub item_cut : item_at width limit file at ≡ Cut → limit < at + width
+  unfolding item_at
+  item_cut is = by (leb (at + width) limit) refl is
+    where
+      by : (t : Bool) → leb (at + width) limit ≡ t → pick t (Value (number_at width file at) (at + width)) Cut ≡ Cut → limit < at + width
+      by true fits e = let z : ◌≡◌ {A = ℕ} 0 1 = cc in absurd (omega arith)
+      by false cut e = leb-false (at + width) limit cut
+
+-- ---- what the format goes on with behind an item
+
+module _ {A : Type 0} (file : List ℕ) (width limit at : ℕ) where
+  abbrev behind : Item → (ℕ → ℕ → Reading A) → Reading A
+  behind (Value v next) following = following v next
+  behind Cut following = wrong at
+
+  abbrev inside : Window → (ℕ → ℕ → Reading A) → Reading A
+  inside (window.Inside start stop) following = following start stop
+  inside window.Cut following = wrong at
+
+  -- a number that is read has to pass its rule, and so has a text
+  abbrev numbered : (ℕ → Bool) → (ℕ → Format A) → ℕ → ℕ → Reading A
+  numbered ok following v next = go_on (ok v) at next (λ n. read_by (following v) file n)
+
+  abbrev spelled : (ℕ → List ℕ → Bool) → (ℕ → ℕ → Format A) → ℕ → ℕ → Reading A
+  spelled ok following start stop =
+      go_on (ok (stop - start) (bytes_at file start (stop - start))) at stop (λ n. read_by (following start (stop - start)) file n)
+
+  number_by :
+      (ok : ℕ → Bool) (following : ℕ → Format A) →
+      read_by (number width limit ok following) file at ≡ behind (item_at width limit file at) (numbered ok following)
+  unfolding read_by item_at
+  number_by ok following = by (leb (at + width) limit)
+    where
+      by :
+          (t : Bool) →
+          go_on (both t (ok (number_at width file at))) at (at + width) (λ n. read_by (following (number_at width file at)) file n)
+          ≡ behind (pick t (Value (number_at width file at) (at + width)) Cut) (numbered ok following)
+      by true = refl
+      by false = refl
+
+  window_by :
+      (following : ℕ → Format A) →
+      read_by (windowed width limit following) file at ≡ inside (window_at width limit file at) (λ start stop. read_by (following stop) file start)
+  unfolding read_by window_at
+  window_by following = by (window_right width limit file at)
+    where
+      by :
+          (t : Bool) →
+          go_on t at (at + width) (λ n. read_by (following (at + width + number_at width file at)) file n)
+          ≡ inside (pick t (window.Inside (at + width) (at + width + number_at width file at)) window.Cut)
+          (λ start stop. read_by (following stop) file start)
+      by true = refl
+      by false = refl
+
+  text_by :
+      (ok : ℕ → List ℕ → Bool) (following : ℕ → ℕ → Format A) →
+      read_by (text width limit ok following) file at ≡ inside (window_at width limit file at) (spelled ok following)
+  unfolding read_by window_at
+  text_by ok following = by (window_right width limit file at)
+    where
+      size : at + width + number_at width file at - (at + width) ≡ number_at width file at
+      size = omega arith
+
+      by :
+          (t : Bool) →
+          go_on (both t (ok (number_at width file at) (bytes_at file (at + width) (number_at width file at)))) at (at + width + number_at width file at)
+          (λ n. read_by (following (at + width) (number_at width file at)) file n)
+          ≡ inside (pick t (window.Inside (at + width) (at + width + number_at width file at)) window.Cut) (spelled ok following)
+      by true = rw size
+      by false = refl
+
+-- ---- the rules
+
+-- what is told of reading what is due at a place
+pub record Tells {A B : Type 0} (tell : Reading A → B) (due : Format A) (file : List ℕ) (at : ℕ) (answer : B) : Type 0 where
+  pub is : tell (read_by due file at) ≡ answer
+
+-- as a contract says it
+pub told :
+    {A B : Type 0} (tell : Reading A → B) (due : Format A) {file : List ℕ} {at : ℕ} {answer : B} → Tells tell due file at answer →
+    answer ≡ tell (read_by due file at)
+told tell due tells = sym tells.is
+
+module _ {A B : Type 0} {tell : Reading A → B} {file : List ℕ} {width limit at : ℕ} where
+  module _ {ok : ℕ → Bool} {following : ℕ → Format A} where
+    pub number_cut : item_at width limit file at ≡ Cut → Tells tell (number width limit ok following) file at (tell (wrong at))
+    number_cut is = record { is = ap tell (number_by file width limit at ok following) ∙ ap (λ (i : Item). tell (behind file width limit at i (numbered file width limit at ok following))) is }
+
+    pub number_bad :
+        {v next : ℕ} → item_at width limit file at ≡ Value v next → ok v ≡ false →
+        Tells tell (number width limit ok following) file at (tell (wrong at))
+    number_bad {v} {next} is fails =
+        record {
+          is = ap tell (number_by file width limit at ok following) ∙ ap (λ (i : Item). tell (behind file width limit at i (numbered file width limit at ok following))) is
+              ∙ ap (λ (t : Bool). tell (go_on t at next (λ n. read_by (following v) file n))) fails;
+        }
+
+    pub number_right :
+        {v next : ℕ} {answer : B} → item_at width limit file at ≡ Value v next → ok v ≡ true → Tells tell (following v) file next answer →
+        Tells tell (number width limit ok following) file at answer
+    number_right {v} {next} is passes onward =
+        record {
+          is = ap tell (number_by file width limit at ok following) ∙ ap (λ (i : Item). tell (behind file width limit at i (numbered file width limit at ok following))) is
+              ∙ ap (λ (t : Bool). tell (go_on t at next (λ n. read_by (following v) file n))) passes ∙ onward.is;
+        }
+
+  module _ {following : ℕ → Format A} where
+    pub window_cut : window_at width limit file at ≡ window.Cut → Tells tell (windowed width limit following) file at (tell (wrong at))
+    window_cut is = record { is = ap tell (window_by file width limit at following) ∙ ap (λ (w : Window). tell (inside file width limit at w (λ start stop. read_by (following stop) file start))) is }
+
+    pub window-right :
+        {start stop : ℕ} {answer : B} → window_at width limit file at ≡ window.Inside start stop → Tells tell (following stop) file start answer →
+        Tells tell (windowed width limit following) file at answer
+    window-right is onward = record { is = ap tell (window_by file width limit at following) ∙ ap (λ (w : Window). tell (inside file width limit at w (λ start stop. read_by (following stop) file start))) is ∙ onward.is }
+
+  module _ {ok : ℕ → List ℕ → Bool} {following : ℕ → ℕ → Format A} where
+    pub text_cut : window_at width limit file at ≡ window.Cut → Tells tell (text width limit ok following) file at (tell (wrong at))
+    text_cut is = record { is = ap tell (text_by file width limit at ok following) ∙ ap (λ (w : Window). tell (inside file width limit at w (spelled file width limit at ok following))) is }
+
+    pub text_bad :
+        {start stop : ℕ} → window_at width limit file at ≡ window.Inside start stop → ok (stop - start) (bytes_at file start (stop - start)) ≡ false →
+        Tells tell (text width limit ok following) file at (tell (wrong at))
+    text_bad {start} {stop} is fails =
+        record {
+          is = ap tell (text_by file width limit at ok following) ∙ ap (λ (w : Window). tell (inside file width limit at w (spelled file width limit at ok following))) is
+              ∙ ap (λ (t : Bool). tell (go_on t at stop (λ n. read_by (following start (stop - start)) file n))) fails;
+        }
+
+    pub text_right :
+        {start stop : ℕ} {answer : B} → window_at width limit file at ≡ window.Inside start stop →
+        ok (stop - start) (bytes_at file start (stop - start)) ≡ true → Tells tell (following start (stop - start)) file stop answer →
+        Tells tell (text width limit ok following) file at answer
+    text_right {start} {stop} is passes onward =
+        record {
+          is = ap tell (text_by file width limit at ok following) ∙ ap (λ (w : Window). tell (inside file width limit at w (spelled file width limit at ok following))) is
+              ∙ ap (λ (t : Bool). tell (go_on t at stop (λ n. read_by (following start (stop - start)) file n))) passes ∙ onward.is;
+        }
+
+module _ {A B : Type 0} {tell : Reading A → B} {file : List ℕ} {limit at : ℕ} {following : Format A} where
+  pub all_read : {answer : B} → limit ≤ at → Tells tell following file at answer → Tells tell (full limit following) file at answer
+  unfolding read_by
+  all_read none onward = record { is = rw (le-leb limit at none) onward.is }
+
+  pub more_there : at < limit → Tells tell (full limit following) file at (tell (wrong at))
+  unfolding read_by
+  more_there some = record { is = rw (lt-leb limit at some) }
+
+pub told_here :
+    {A B : Type 0} {tell : Reading A → B} {file : List ℕ} {at : ℕ} {following : ℕ → Format A} {answer : B} →
+    Tells tell (following at) file at answer → Tells tell (here following) file at answer
+unfolding read_by
+told_here onward = record { is = onward.is }
+
+pub all_done : {A B : Type 0} {tell : Reading A → B} {file : List ℕ} {at : ℕ} {a : A} → Tells tell (done a) file at (tell (right a at))
+unfolding read_by
+all_done = record { is = refl }
+
+-- ---- one format behind another
+
+-- a run that ended has read something, and one that did not has a first wrong item
+pub ended : {A : Type 0} (r : Reading A) {next : ℕ} → run_of r ≡ End next → (a : A) × (r ≡ right a next)
+ended (right a end) {next} e = let same : end ≡ next = cc in (a, ap (right a) same)
+ended (wrong place) e = let z : ◌≡◌ {A = ℕ} 0 1 = cc in absurd (omega arith)
+
+pub failed : {A : Type 0} (r : Reading A) {place : ℕ} → run_of r ≡ Wrong place → r ≡ wrong place
+failed (right a end) e = let z : ◌≡◌ {A = ℕ} 0 1 = cc in absurd (omega arith)
+failed (wrong offset) {place} e = let same : offset ≡ place = cc in ap wrong same
+
+module _ {A B C : Type 0} {tell : Reading B → C} (format : Format A) (rest : A → Format B) {file : List ℕ} {at : ℕ} where
+  pub then-read :
+      {a : A} {next : ℕ} {answer : C} → read_by format file at ≡ right a next → Tells tell (rest a) file next answer →
+      Tells tell (and_then format rest) file at answer
+  then-read is onward = record { is = ap tell (read_then rest file format at) ∙ ap (λ (r : Reading A). tell (then_read r (λ a next. read_by (rest a) file next))) is ∙ onward.is }
+
+  pub then_failed : {place : ℕ} → read_by format file at ≡ wrong place → Tells tell (and_then format rest) file at (tell (wrong place))
+  then_failed is = record { is = ap tell (read_then rest file format at) ∙ ap (λ (r : Reading A). tell (then_read r (λ a next. read_by (rest a) file next))) is }
+
+  pub then_wrong :
+      {place : ℕ} → run_of (read_by format file at) ≡ Wrong place → Tells tell (and_then format rest) file at (tell (wrong place))
+  then_wrong is = then_failed (failed (read_by format file at) is)
+
+  pub then_right :
+      {next : ℕ} {answer : C} → run_of (read_by format file at) ≡ End next → ((a : A) → Tells tell (rest a) file next answer) →
+      Tells tell (and_then format rest) file at answer
+  then_right is onward = let read = ended (read_by format file at) is in then-read read.1 (onward read.0)
+
+-- a format behind which nothing more is due: what is made of it does not matter to a run
+pub then_done :
+    {A B : Type 0} (format : Format A) (make : A → B) {file : List ℕ} {at : ℕ} →
+    Tells run_of (and_then format (λ a. done (make a))) file at (run_of (read_by format file at))
+unfolding read_by
+then_done {A} format make {file} {at} =
+    record { is = ap run_of (read_then (λ a. done (make a)) file format at) ∙ by (read_by format file at) }
+  where
+    by : (r : Reading A) → run_of (then_read r (λ a next. read_by (done (make a)) file next)) ≡ run_of r
+    by (right a next) = refl
+    by (wrong place) = refl
+
+-- ---- a format that stands so many times: a turn of a loop over it
+
+module _ {A : Type 0} (one : Format A) {file : List ℕ} {at : ℕ} where
+  pub turn_wrong :
+      (left : ℕ) {place : ℕ} → 0 < left → run_of (read_by one file at) ≡ Wrong place → Tells run_of (times left one) file at (Wrong place)
+  unfolding times
+  turn_wrong zero some is = absurd (omega arith)
+  turn_wrong (suc n) some is = then_wrong one (λ a. and_then (times n one) (λ more. done (a ∷ more))) is
+
+  pub turn_right :
+      (left : ℕ) {next : ℕ} → 0 < left → run_of (read_by one file at) ≡ End next →
+      Tells run_of (times left one) file at (run_of (read_by (times (left - 1) one) file next))
+  unfolding times read_by
+  turn_right zero some is = absurd (omega arith)
+  turn_right (suc n) {next} some is =
+      let less : suc n - 1 ≡ n = omega arith in
+      rw less (then_right one (λ a. and_then (times n one) (λ more. done (a ∷ more))) is (λ a. then_done (times n one) (λ more. a ∷ more)))
+
+  pub none_left : (left : ℕ) → left ≤ 0 → Tells run_of (times left one) file at (End at)
+  unfolding times read_by
+  none_left zero none = record { is = refl }
+  none_left (suc n) none = absurd (omega arith)
+
+-- the same where each is by what came of those before it
+module _ {A B : Type 0} {tell : Reading A → B} (one : A → Format A) (a : A) {file : List ℕ} {at : ℕ} where
+  pub each_failed :
+      (left : ℕ) {place : ℕ} → 0 < left → read_by (one a) file at ≡ wrong place → Tells tell (each left one a) file at (tell (wrong place))
+  unfolding each
+  each_failed zero some is = absurd (omega arith)
+  each_failed (suc n) some is = then_failed (one a) (λ b. each n one b) is
+
+  pub each_read :
+      (left : ℕ) {b : A} {next : ℕ} {answer : B} → 0 < left → read_by (one a) file at ≡ right b next →
+      Tells tell (each (left - 1) one b) file next answer → Tells tell (each left one a) file at answer
+  unfolding each
+  each_read zero some is onward = absurd (omega arith)
+  each_read (suc n) {b} {next} {answer} some is onward =
+      let less : suc n - 1 ≡ n = omega arith in
+      then-read (one a) (λ b. each n one b) is (subst (λ (k : ℕ). Tells tell (each k one b) file next answer) less onward)
+
+  pub each_none : (left : ℕ) → left ≤ 0 → Tells tell (each left one a) file at (tell (right a at))
+  unfolding each
+  each_none zero none = all_done
+  each_none (suc n) none = absurd (omega arith)

@@ -1,0 +1,65 @@
+-- What is known of a member, by the tests that the code makes: no texts or some in a run; resolved or not, and of which kind, in a pool.
+-- Assumes nothing.
+use Prim.Native.Nat.{ℕ}
+use mathlib.Core.Path.{◌≡◌, ◌∙◌}
+use mathlib.Core.List.{List}
+use lib.ListN.{length}
+use borrow.Author.Tests.{eq-eqb, ne_eqb}
+use Rattle.fieldtype.specs.declared.Found.TheVariants.{At}
+use Rattle.descriptor.specs.Readers.{parameters, slots_behind}
+use Rattle.descriptor.specs.declared.Params.TheVariants.{Read as ReadParams, Unreadable as NoParams}
+use Rattle.descriptor.specs.declared.Slots.TheVariants.{Slots as SlotsOf, Unreadable as NoSlots}
+use Rattle.descriptor.proofs.Return.{behind_end}
+use Rattle.items.specs.Text.{descriptor_of}
+use Rattle.index.specs.Index.{found_by}
+use Rattle.classformat.specs.Contents.{spelled}
+use Rattle.entries.specs.Entries.{entry_by, names_by, resolved_by}
+use Rattle.entries.specs.declared.Resolved.TheVariants.{Member, Missing}
+use Rattle.effects.specs.Lookup.{missing, known}
+use Rattle.effects.proofs.Known.{known_none, known_some}
+use Rattle.members.specs.Members.{lookup_by, pool_lookup, signature_of}
+use Rattle.members.specs.declared.Call.TheVariants.{Read, Unreadable}
+
+-- ---- in a run: texts, what the code found
+
+module _ (members : List ℕ) (count : ℕ) (table : List ℕ) (kind index : ℕ) (texts : List ℕ)
+    (is : texts ≡ found_by members count table index kind) where
+  pub run_none : length texts ≡ 0 → lookup_by members count table kind index ≡ missing
+  unfolding lookup_by
+  run_none none = rw (← is) (known_none texts none)
+
+  pub run_some : (length texts ≡ 0 → ⊥) → lookup_by members count table kind index ≡ known (descriptor_of texts)
+  unfolding lookup_by
+  run_some some = rw (← is) (known_some texts some)
+
+-- ---- in a pool
+
+module _ (file table : List ℕ) (kind index : ℕ) where
+  pub pool_none : resolved_by (entry_by file table) index ≡ Missing → pool_lookup file table kind index ≡ missing
+  unfolding pool_lookup
+  pool_none e = rw e
+
+  module _ (own class name descriptor : ℕ) (e : resolved_by (entry_by file table) index ≡ Member own class name descriptor) where
+    pub pool_other : (own ≡ kind → ⊥) → pool_lookup file table kind index ≡ missing
+    unfolding pool_lookup
+    pool_other other = rw (e, ne_eqb own kind other)
+
+    pub pool_some : own ≡ kind → pool_lookup file table kind index ≡ known (spelled (names_by file table descriptor))
+    unfolding pool_lookup
+    pool_some same = rw (e, eq-eqb own kind same)
+
+-- ---- the slots of a call, by its descriptor
+
+module _ (descriptor : List ℕ) where
+  pub unread : parameters descriptor ≡ NoParams → Unreadable ≡ signature_of descriptor
+  unread p = rw p
+
+  pub endless :
+      (args end : ℕ) → parameters descriptor ≡ ReadParams args end → slots_behind descriptor (At end) ≡ NoSlots →
+      Unreadable ≡ signature_of descriptor
+  endless args end p r = rw (p, behind_end descriptor args end p ∙ r)
+
+  pub read :
+      (args end gives : ℕ) → parameters descriptor ≡ ReadParams args end → slots_behind descriptor (At end) ≡ SlotsOf gives →
+      Read args gives ≡ signature_of descriptor
+  read args end gives p r = rw (p, behind_end descriptor args end p ∙ r)

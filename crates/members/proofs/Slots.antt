@@ -1,0 +1,45 @@
+-- A call has few slots: a byte of a method's descriptor gives two at most.
+-- Assumes nothing.
+use Prim.Native.Nat.{ℕ, zero, suc, ◌*◌, ◌≤◌}
+use native.Mathlib.Omega.{arith}
+use mathlib.Core.Path.{◌≡◌}
+use mathlib.Core.Bool.{Bool, true, false}
+use mathlib.Core.List.{List}
+use lib.Dec.{eqb}
+use lib.ListN.{length}
+use Rattle.basics.specs.Bytes.{byte_at}
+use Rattle.basics.specs.Choice.{pick}
+use Rattle.fieldtype.specs.Types.{field_type_at, Types, over, unread, one, types_step, list_over, types_from, types_at, types_of}
+use Rattle.fieldtype.specs.declared.Taken.{Taken}
+use Rattle.fieldtype.specs.declared.Taken.TheVariants as taken
+use Rattle.descriptor.specs.Readers.{slots_of, judged, parameters}
+use Rattle.descriptor.specs.declared.Params.TheVariants.{Read, Unreadable}
+use Rattle.descriptor.proofs.Listing.{one_or_two}
+
+few_from : (text : List ℕ) (k at : ℕ) → slots_of (types_from text k at) ≤ 2 * k
+unfolding types_from slots_of
+few_from text zero at = omega arith
+few_from text (suc k) at = by_step (list_over text at) (field_type_at text at) (λ next. few_from text k next)
+  where
+    by_step :
+        (b : Bool) (t : Taken) → ((next : ℕ) → slots_of (types_from text k next) ≤ 2 * k) →
+        slots_of (types_step b t at (λ next. types_from text k next)) ≤ 2 * suc k
+    by_step true t fewer = omega arith
+    by_step false (taken.Field t) fewer = omega (arith, (one_or_two t).1, fewer t.next)
+    by_step false taken.Unreadable fewer = omega arith
+
+judged_slots : (types : Types) (n slots end : ℕ) → judged types n ≡ Read slots end → n ≡ slots
+unfolding judged
+judged_slots (over at) n slots end e = cc
+judged_slots (unread at) n slots end e = let z : ◌≡◌ {A = ℕ} 0 1 = cc in absurd (omega arith)
+judged_slots (one t rest) n slots end e = judged_slots rest n slots end e
+
+pub few_slots : (text : List ℕ) (slots end : ℕ) → parameters text ≡ Read slots end → slots ≤ 2 * length text
+unfolding parameters types_of types_at
+few_slots text slots end e = by_test (eqb (byte_at text 0) 40) e
+  where
+    by_test :
+        (b : Bool) → pick b (judged (types_of text) (slots_of (types_of text))) Unreadable ≡ Read slots end →
+        slots ≤ 2 * length text
+    by_test true e = omega (arith, judged_slots (types_of text) (slots_of (types_of text)) slots end e, few_from text (length text) 1)
+    by_test false e = let z : ◌≡◌ {A = ℕ} 0 1 = cc in absurd (omega arith)

@@ -1,0 +1,32 @@
+-- `methods::read_methods` meets its contract. The invariant: what is left answers what all of it answers.
+-- Assumes nothing.
+use mathlib.Core.Path.{◌∙◌, sym}
+use Rattle.format.specs.Format.{read_by}
+use Rattle.format.proofs.Items.{turn_wrong, turn_right, none_left}
+use Rattle.classformat.specs.ClassFile.{method_format}
+use Rattle.entries.specs.Entries.{names_by}
+use Rattle.methods.proofs.Told.{method_ended, method_wrong}
+use Rattle.methods.proofs.read_methods.Goals as goal
+
+pub returns-in-Wrong : goal.returns-in-Wrong
+returns-in-Wrong c =
+    let a = c.args in
+    let l = c.loop-left in
+    let one = method_format (names_by a.file.now a.table.now) a.limit in
+    let wrong-is = method_wrong (read_by one a.file.now l.at) (sym c.read_method.ensures ∙ c.in-Wrong.is) in
+    sym (l.invariant ∙ (turn_wrong one l.left c.loop-left-test.true wrong-is).is)
+
+pub loop-left-preserved : goal.loop-left-preserved
+loop-left-preserved c =
+    let a = c.args in
+    let l = c.loop-left in
+    let one = method_format (names_by a.file.now a.table.now) a.limit in
+    let next_is = method_ended (read_by one a.file.now l.at) (sym c.read_method.ensures ∙ c.in-Read.is) in
+    l.invariant ∙ (turn_right one l.left c.loop-left-test.true next_is).is
+
+pub returns : goal.returns
+returns c =
+    let a = c.args in
+    let l = c.loop-left in
+    let one = method_format (names_by a.file.now a.table.now) a.limit in
+    sym (l.invariant ∙ (none_left one l.left c.loop-left-test.false).is)
