@@ -5,24 +5,17 @@
 ghost use Rattle.std.specs.Prelude.{◌≡◌};
 ghost use Rattle.jletter.specs.Letter.{semicolon_from, is_base};
 
-// What the search for a semicolon finds.
-#[derive(Clone, Copy)]
-pub enum Found {
-    At(usize),
-    Absent,
-}
-
 // The first semicolon at or after a place.
-pub fn semicolon(text: &[u8], from: usize) -> Found
+pub fn semicolon(text: &[u8], from: usize) -> Option<usize>
     ensures { result ≡ semicolon_from text.now from }
 {
     let mut i = from;
     let place = loop {
         if text.len() <= i {
-            break Found::Absent;
+            break None;
         }
         if text[i] == b';' {
-            break Found::At(i);
+            break Some(i);
         }
         i += 1;
     };

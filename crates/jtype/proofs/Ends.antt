@@ -1,5 +1,6 @@
 -- A type that was read and a `)` lie within the text.
 -- Assumes nothing.
+use Rattle.std.specs.Prelude.{Option, Some, None}
 use Prim.Native.Nat.{ℕ, suc, ◌+◌, ◌-◌, ◌≤◌, ◌<◌}
 use native.Mathlib.Omega.{arith}
 use mathlib.Core.List.{List, [], ◌∷◌}
@@ -7,8 +8,6 @@ use lib.Dec.{eqb, ltb}
 use lib.ListN.{length, drop, length-drop}
 use Rattle.basics.proofs.Choice.{chosen}
 use Rattle.jletter.specs.Letter.{semicolon_in, is_base}
-use Rattle.jletter.specs.declared.Found.{Found}
-use Rattle.jletter.specs.declared.Found.TheVariants.{At, Absent}
 use Rattle.jletter.proofs.Ends.{FoundWithin, semicolon_in_within}
 use Rattle.jtype.specs.OneType.{brackets, unnamed_type, class_type, element, type_in, type_at}
 use Rattle.jtype.specs.declared.Next.{Next}
@@ -26,11 +25,11 @@ next_earlier at place end h Close w = omega arith
 next_earlier at place end h (Refused r) w = tt
 
 class_within :
-    (depth from end : ℕ) (f : Found) → FoundWithin (from + 1) end f → NextWithin from end (class_type depth (from + 1) f)
+    (depth from end : ℕ) (f : Option ℕ) → FoundWithin (from + 1) end f → NextWithin from end (class_type depth (from + 1) f)
 unfolding class_type
-class_within depth from end (At k) h =
+class_within depth from end (Some k) h =
     chosen (NextWithin from end) (eqb k (from + 1)) (Refused _) (Is _ (k + 1)) tt (omega arith, omega arith)
-class_within depth from end Absent h = tt
+class_within depth from end None h = tt
 
 element_within : (depth : ℕ) (rest : List ℕ) (at end : ℕ) → at + length rest ≤ end → NextWithin at end (element depth rest at)
 unfolding element unnamed_type

@@ -2,11 +2,9 @@
 -- A text is read from its left, so the first refusal that is met is the answer.
 -- The bytes: 40 `(`, 41 `)`, 59 `;`, 76 `L`, 86 `V`, 91 `[`.
 -- Assumes nothing.
-use Rattle.std.specs.Prelude.{ℕ, suc, ◌+◌, ◌-◌, List, [], ◌∷◌, eqb, ltb, drop}
+use Rattle.std.specs.Prelude.{ℕ, suc, ◌+◌, ◌-◌, List, [], ◌∷◌, eqb, ltb, drop, Option, Some, None}
 use Rattle.basics.specs.Choice.{pick}
 use Rattle.jletter.specs.Letter.{semicolon_in, is_base}
-use Rattle.jletter.specs.declared.Found.{Found}
-use Rattle.jletter.specs.declared.Found.TheVariants.{At, Absent}
 use Rattle.jtype.specs.declared.Next.{Next}
 use Rattle.jtype.specs.declared.Next.TheVariants.{Is, Close, Refused}
 use Rattle.refusal.specs.declared.Refusal.TheVariants.{UnexpectedEnd, TooManyDimensions, EmptyClassName}
@@ -27,9 +25,9 @@ unfoldable pub unnamed_type : ℕ → ℕ → ℕ → Next
 unnamed_type letter depth next = Is (type_record letter depth 0 0) next
 
 -- a class type whose name starts at a place, with the semicolon found from there: "5 empty class name, 6 no semicolon"
-unfoldable pub class_type : ℕ → ℕ → Found → Next
-class_type depth from Absent = Refused MissingSemicolon
-class_type depth from (At end) =
+unfoldable pub class_type : ℕ → ℕ → Option ℕ → Next
+class_type depth from None = Refused MissingSemicolon
+class_type depth from (Some end) =
     pick (eqb end from) (Refused EmptyClassName) (Is (type_record 76 depth from (end - from)) (end + 1))
 
 -- what stands behind brackets, its first byte at the place given: "1 unexpected end", "7 `)` after `[`, 8 array of void,

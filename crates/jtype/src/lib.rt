@@ -6,7 +6,7 @@ ghost use Rattle.std.specs.Prelude.{◌≡◌, ◌+◌, drop};
 ghost use Rattle.jletter.specs.Letter.{semicolon_from};
 ghost use Rattle.jtype.specs.OneType.{brackets, unnamed_type, class_type, element, type_at};
 
-use jletter::{Found, is_base, semicolon};
+use jletter::{is_base, semicolon};
 use refusal::Refusal;
 
 // A type that was read: its base letter, its dimensions, and where its class name stands in the text (0 and 0 without one).
@@ -69,7 +69,7 @@ fn unnamed(letter: u8, depth: usize, next: usize) -> Next
 fn class_type(text: &[u8], depth: usize, from: usize) -> Next
     ensures { result ≡ class_type depth from (semicolon_from text.now from) }
 {
-    let Found::At(end) = semicolon(text, from) else {
+    let Some(end) = semicolon(text, from) else {
         return Next::Refused(Refusal::MissingSemicolon);
     };
     if end == from {

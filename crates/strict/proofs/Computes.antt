@@ -1,5 +1,6 @@
 -- What the definitions read where the text is written out: behind brackets, a name up to its semicolon, a whole type.
 -- Assumes nothing.
+use Rattle.std.specs.Prelude.{Some, None}
 use Prim.Native.Nat.{ℕ, zero, suc, ◌+◌, ◌-◌, ◌≤◌}
 use native.Mathlib.Nat.{add-zero, zero-add}
 use native.Mathlib.Omega.{arith}
@@ -14,7 +15,6 @@ use Rattle.jvms.specs.Descriptor.{FieldType, base, class, array, ReturnType, voi
 use Rattle.jvms.specs.Descriptor.{NoSemicolon, ClassName, Named, WellFormed, WellFormedReturn}
 use Rattle.jletter.specs.Letter.{semicolon_in, is_base}
 use Rattle.jtype.specs.OneType.{brackets, type_record, unnamed_type, class_type, element, type_in}
-use Rattle.jletter.specs.declared.Found.TheVariants.{At, Absent}
 use Rattle.jtype.specs.declared.Next.TheVariants.{Is, Close, Refused}
 use Rattle.refusal.specs.declared.Refusal.{Refusal}
 use Rattle.refusal.specs.declared.Refusal.TheVariants.{UnexpectedEnd, TooManyDimensions, EmptyClassName, MissingSemicolon, CloseAfterBracket, ArrayOfVoid, Unrecognised}
@@ -50,17 +50,17 @@ behind depth rest at few stops =
 
 -- ---- names
 
-no_semicolon : (name : List ℕ) (at : ℕ) → NoSemicolon name → semicolon_in name at ≡ Absent
+no_semicolon : (name : List ℕ) (at : ℕ) → NoSemicolon name → semicolon_in name at ≡ None
 unfolding semicolon_in
 no_semicolon [] at h = refl
 no_semicolon (x ∷ name) at h = rw (ne_eqb x 59 h.0) (no_semicolon name (at + 1) h.1)
 
-semicolon_behind : (name rest : List ℕ) (at : ℕ) → NoSemicolon name → semicolon_in (name ++ (59 ∷ rest)) at ≡ At (at + length name)
+semicolon_behind : (name rest : List ℕ) (at : ℕ) → NoSemicolon name → semicolon_in (name ++ (59 ∷ rest)) at ≡ Some (at + length name)
 unfolding semicolon_in
 semicolon_behind [] rest at h = rw add-zero
 semicolon_behind (x ∷ name) rest at h =
     let far : at + 1 + length name ≡ at + suc (length name) = omega arith in
-    rw (ne_eqb x 59 h.0) (semicolon_behind name rest (at + 1) h.1 ∙ ap At far)
+    rw (ne_eqb x 59 h.0) (semicolon_behind name rest (at + 1) h.1 ∙ ap Some far)
 
 -- ---- base letters
 

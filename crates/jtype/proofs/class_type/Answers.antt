@@ -13,20 +13,20 @@ returns-in_default c = rw (sym c.semicolon.ensures ∙ c.in_default.is)
 
 pub returns-then-end-from : goal.returns-then-end-from
 unfolding class_type
-returns-then-end-from c = rw (sym c.semicolon.ensures ∙ c.in-At.is, eq-eqb _ _ c.if-end-from.true)
+returns-then-end-from c = rw (sym c.semicolon.ensures ∙ c.in-Some.is, eq-eqb _ _ c.if-end-from.true)
 
 pub overflow_sub-result : goal.overflow_sub-result
 overflow_sub-result c =
     let a = c.args in
-    let found = sym c.semicolon.ensures ∙ c.in-At.is in
+    let found = sym c.semicolon.ensures ∙ c.in-Some.is in
     omega (arith, rw found at (semicolon_within a.text.now a.from))
 
 pub overflow_add-result : goal.overflow_add-result
 overflow_add-result c =
     let a = c.args in
-    let found = sym c.semicolon.ensures ∙ c.in-At.is in
+    let found = sym c.semicolon.ensures ∙ c.in-Some.is in
     omega (arith, rw found at (semicolon_within a.text.now a.from))
 
 pub returns : goal.returns
 unfolding class_type
-returns c = rw (sym c.semicolon.ensures ∙ c.in-At.is, ne_eqb _ _ c.if-end-from.false)
+returns c = rw (sym c.semicolon.ensures ∙ c.in-Some.is, ne_eqb _ _ c.if-end-from.false)
