@@ -6,7 +6,7 @@ ghost use Rattle.std.specs.Prelude.{◌≡◌};
 ghost use Rattle.casefile.specs.Whole.{tables_at, case_of};
 
 use items::{Text, read_text};
-use number::{Number, case_number};
+use number::case_number;
 use tables::Run;
 
 // The greatest length of a case.
@@ -63,7 +63,7 @@ pub enum Case {
 fn read_tables(bytes: &[u8], at: usize) -> Tables
     ensures { result ≡ tables_at bytes.now at }
 {
-    let Number::Value(member_count, members) = case_number(bytes, at) else {
+    let Some((member_count, members)) = case_number(bytes, at) else {
         return Tables::Wrong(at);
     };
     let member_run = tables::read_members(bytes, members, member_count);
@@ -73,7 +73,7 @@ fn read_tables(bytes: &[u8], at: usize) -> Tables
             return Tables::Wrong(wrong);
         }
     };
-    let Number::Value(record_count, records) = case_number(bytes, members_end) else {
+    let Some((record_count, records)) = case_number(bytes, members_end) else {
         return Tables::Wrong(members_end);
     };
     let record_run = tables::read_records(bytes, records, record_count);
@@ -101,10 +101,10 @@ pub fn read_case(bytes: &[u8]) -> Case
     if LONGEST < bytes.len() {
         return Case::TooLong;
     }
-    let Number::Value(flags, fault_at) = case_number(bytes, 0) else {
+    let Some((flags, fault_at)) = case_number(bytes, 0) else {
         return Case::Wrong(0);
     };
-    let Number::Value(fault, code_at) = case_number(bytes, fault_at) else {
+    let Some((fault, code_at)) = case_number(bytes, fault_at) else {
         return Case::Wrong(fault_at);
     };
     let Text::Place(code, code_length) = read_text(bytes, code_at) else {

@@ -1,6 +1,8 @@
 -- The reader answers the offset of the first wrong item as it is declared, and no other.
 -- Rests on: what stands is read and what is read stands (Reading, Items).
 -- Assumes nothing.
+use Rattle.std.specs.Prelude.{Option, Some, None}
+use Rattle.std.proofs.lemmas.Option.{some_pair_parts}
 use Prim.Native.Nat.{ℕ, zero, suc, ◌+◌, ◌≤◌, ◌<◌}
 use native.Mathlib.Omega.{arith}
 use mathlib.Core.Path.{◌≡◌, refl, ◌∙◌, sym, ap, subst, subst₂}
@@ -13,8 +15,6 @@ use Rattle.basics.specs.Bytes.{AreBytes}
 use Rattle.basics.specs.Choice.{pick}
 use Rattle.number.specs.Number.{greatest, number_at, then_number}
 use Rattle.items.specs.Text.{text_at, then_text}
-use Rattle.number.specs.declared.Number.{Number}
-use Rattle.number.specs.declared.Number.TheVariants.{Value, NotNumber}
 use Rattle.items.specs.declared.Text.{Text}
 use Rattle.items.specs.declared.Text.TheVariants.{Place, NotText}
 use Rattle.tables.specs.Layout.{Layout, number, sized, may_end, ended, any, members_then, records_then, tables_then, case_layout, run_by, then_run}
@@ -55,7 +55,7 @@ module _ (bytes : List ℕ) (are : AreBytes bytes) where
       by_number (number_at greatest bytes at) refl (λ v next there. declares (following v) next there)
     where
       by_rule :
-          (v next : ℕ) → number_at greatest bytes at ≡ Value v next → (t : Bool) → right v ≡ t →
+          (v next : ℕ) → number_at greatest bytes at ≡ Some (v, next) → (t : Bool) → right v ≡ t →
           ((w after : ℕ) → Reached bytes (following w) after → Declares (run_by (following w) bytes after)) →
           Declares (pick t (run_by (following v) bytes next) (Wrong at))
       by_rule v next e true f onward =
@@ -70,7 +70,7 @@ module _ (bytes : List ℕ) (are : AreBytes bytes) where
             wrong =
                 λ w fits passes stands.
                 let other = number_reads greatest bytes at w fits stands in
-                let same : w ≡ v = cc in
+                let same : w ≡ v = (some_pair_parts w v _ next (sym other ∙ e)).0 in
                 let fails : right w ≡ false = rw same f in
                 let passed = true_test (right w) passes in
                 let z : ◌≡◌ {A = Bool} true false = cc in
@@ -79,11 +79,11 @@ module _ (bytes : List ℕ) (are : AreBytes bytes) where
           }
 
       by_number :
-          (n : Number) → number_at greatest bytes at ≡ n →
+          (n : Option (ℕ × ℕ)) → number_at greatest bytes at ≡ n →
           ((w after : ℕ) → Reached bytes (following w) after → Declares (run_by (following w) bytes after)) →
           Declares (then_number n (Wrong at) (λ v next. pick (right v) (run_by (following v) bytes next) (Wrong at)))
-      by_number (Value v next) e onward = by_rule v next e (right v) refl onward
-      by_number NotNumber e onward =
+      by_number (Some (v, next)) e onward = by_rule v next e (right v) refl onward
+      by_number None e onward =
           record {
             due = number right following;
             reached = reached;
@@ -222,8 +222,8 @@ module _ (following : Layout) (bytes : List ℕ) (at : ℕ) where
   tables-then = by_count (number_at greatest bytes at) refl
     where
       by_records :
-          (count members end record_count records : ℕ) → number_at greatest bytes at ≡ Value count members →
-          run_by (members_then count 0 ended) bytes members ≡ End end → number_at greatest bytes end ≡ Value record_count records →
+          (count members end record_count records : ℕ) → number_at greatest bytes at ≡ Some (count, members) →
+          run_by (members_then count 0 ended) bytes members ≡ End end → number_at greatest bytes end ≡ Some (record_count, records) →
           (r : Run) → run_by (records_then record_count ended) bytes records ≡ r → TablesThen
       by_records count members end record_count records e f g (End last) h =
           rw (e, members-then count 0 after_members bytes members, f, g, records-then record_count following bytes records, h)
@@ -231,22 +231,22 @@ module _ (following : Layout) (bytes : List ℕ) (at : ℕ) where
           rw (e, members-then count 0 after_members bytes members, f, g, records-then record_count following bytes records, h)
 
       by_record_count :
-          (count members end : ℕ) → number_at greatest bytes at ≡ Value count members →
+          (count members end : ℕ) → number_at greatest bytes at ≡ Some (count, members) →
           run_by (members_then count 0 ended) bytes members ≡ End end →
-          (n : Number) → number_at greatest bytes end ≡ n → TablesThen
-      by_record_count count members end e f (Value record_count records) g =
+          (n : Option (ℕ × ℕ)) → number_at greatest bytes end ≡ n → TablesThen
+      by_record_count count members end e f (Some (record_count, records)) g =
           by_records count members end record_count records e f g (run_by (records_then record_count ended) bytes records) refl
-      by_record_count count members end e f NotNumber g = rw (e, members-then count 0 after_members bytes members, f, g)
+      by_record_count count members end e f None g = rw (e, members-then count 0 after_members bytes members, f, g)
 
       by_members :
-          (count members : ℕ) → number_at greatest bytes at ≡ Value count members →
+          (count members : ℕ) → number_at greatest bytes at ≡ Some (count, members) →
           (r : Run) → run_by (members_then count 0 ended) bytes members ≡ r → TablesThen
       by_members count members e (End end) f = by_record_count count members end e f (number_at greatest bytes end) refl
       by_members count members e (Wrong offset) f = rw (e, members-then count 0 after_members bytes members, f)
 
-      by_count : (n : Number) → number_at greatest bytes at ≡ n → TablesThen
-      by_count (Value count members) e = by_members count members e (run_by (members_then count 0 ended) bytes members) refl
-      by_count NotNumber e = rw e
+      by_count : (n : Option (ℕ × ℕ)) → number_at greatest bytes at ≡ n → TablesThen
+      by_count (Some (count, members)) e = by_members count members e (run_by (members_then count 0 ended) bytes members) refl
+      by_count None e = rw e
 
 module _ (bytes : List ℕ) where
   abbrev CaseRun : Type 0
@@ -264,7 +264,7 @@ module _ (bytes : List ℕ) where
 
       by_tables :
           (flags fault_at fault code_at code code_length signature signature_length : ℕ) →
-          number_at greatest bytes 0 ≡ Value flags fault_at → number_at greatest bytes fault_at ≡ Value fault code_at →
+          number_at greatest bytes 0 ≡ Some (flags, fault_at) → number_at greatest bytes fault_at ≡ Some (fault, code_at) →
           text_at bytes code_at ≡ Place code code_length → text_at bytes (code + code_length) ≡ Place signature signature_length →
           (t : Tables) → tables_at bytes (signature + signature_length) ≡ t → CaseRun
       by_tables flags fault_at fault code_at code code_length signature signature_length e f g h (tables.Read places) i =
@@ -275,28 +275,28 @@ module _ (bytes : List ℕ) where
 
       by_signature :
           (flags fault_at fault code_at code code_length : ℕ) →
-          number_at greatest bytes 0 ≡ Value flags fault_at → number_at greatest bytes fault_at ≡ Value fault code_at →
+          number_at greatest bytes 0 ≡ Some (flags, fault_at) → number_at greatest bytes fault_at ≡ Some (fault, code_at) →
           text_at bytes code_at ≡ Place code code_length → (t : Text) → text_at bytes (code + code_length) ≡ t → CaseRun
       by_signature flags fault_at fault code_at code code_length e f g (Place signature n) h =
           by_tables flags fault_at fault code_at code code_length signature n e f g h (tables_at bytes (signature + n)) refl
       by_signature flags fault_at fault code_at code code_length e f g NotText h = rw (e, f, g, h)
 
       by_code :
-          (flags fault_at fault code_at : ℕ) → number_at greatest bytes 0 ≡ Value flags fault_at →
-          number_at greatest bytes fault_at ≡ Value fault code_at → (t : Text) → text_at bytes code_at ≡ t → CaseRun
+          (flags fault_at fault code_at : ℕ) → number_at greatest bytes 0 ≡ Some (flags, fault_at) →
+          number_at greatest bytes fault_at ≡ Some (fault, code_at) → (t : Text) → text_at bytes code_at ≡ t → CaseRun
       by_code flags fault_at fault code_at e f (Place code code_length) g =
           by_signature flags fault_at fault code_at code code_length e f g (text_at bytes (code + code_length)) refl
       by_code flags fault_at fault code_at e f NotText g = rw (e, f, g)
 
       by_fault :
-          (flags fault_at : ℕ) → number_at greatest bytes 0 ≡ Value flags fault_at →
-          (n : Number) → number_at greatest bytes fault_at ≡ n → CaseRun
-      by_fault flags fault_at e (Value fault code_at) f = by_code flags fault_at fault code_at e f (text_at bytes code_at) refl
-      by_fault flags fault_at e NotNumber f = rw (e, f)
+          (flags fault_at : ℕ) → number_at greatest bytes 0 ≡ Some (flags, fault_at) →
+          (n : Option (ℕ × ℕ)) → number_at greatest bytes fault_at ≡ n → CaseRun
+      by_fault flags fault_at e (Some (fault, code_at)) f = by_code flags fault_at fault code_at e f (text_at bytes code_at) refl
+      by_fault flags fault_at e None f = rw (e, f)
 
-      by_flags : (n : Number) → number_at greatest bytes 0 ≡ n → CaseRun
-      by_flags (Value flags fault_at) e = by_fault flags fault_at e (number_at greatest bytes fault_at) refl
-      by_flags NotNumber e = rw e
+      by_flags : (n : Option (ℕ × ℕ)) → number_at greatest bytes 0 ≡ n → CaseRun
+      by_flags (Some (flags, fault_at)) e = by_fault flags fault_at e (number_at greatest bytes fault_at) refl
+      by_flags None e = rw e
 
 -- ---- the statement
 
@@ -350,7 +350,7 @@ module _ (bytes : List ℕ) where
   stops are (number right following) at nothing = by_number (number_at greatest bytes at) refl
     where
       by_rule :
-          (v next : ℕ) → number_at greatest bytes at ≡ Value v next → (t : Bool) → right v ≡ t →
+          (v next : ℕ) → number_at greatest bytes at ≡ Some (v, next) → (t : Bool) → right v ≡ t →
           on_run bytes (pick t (run_by (following v) bytes next) (Wrong at)) ≡ wrong_at at
       by_rule v next e true f =
           let read = number_stands greatest bytes at v next are e in
@@ -358,10 +358,10 @@ module _ (bytes : List ℕ) where
       by_rule v next e false f = refl
 
       by_number :
-          (n : Number) → number_at greatest bytes at ≡ n →
+          (n : Option (ℕ × ℕ)) → number_at greatest bytes at ≡ n →
           on_run bytes (then_number n (Wrong at) (λ v next. pick (right v) (run_by (following v) bytes next) (Wrong at))) ≡ wrong_at at
-      by_number (Value v next) e = by_rule v next e (right v) refl
-      by_number NotNumber e = refl
+      by_number (Some (v, next)) e = by_rule v next e (right v) refl
+      by_number None e = refl
   stops are (may_end following) at nothing = absurd nothing
   stops are (sized following) at nothing = by_text (text_at bytes at) refl
     where

@@ -1,6 +1,7 @@
 -- A run by a layout, one item at a time: forward where the item stands, and back where the run came to its end.
 -- Rests on: what stands is read and what is read stands (Reading).
 -- Assumes nothing.
+use Rattle.std.specs.Prelude.{Option, Some, None}
 use Prim.Native.Nat.{ℕ, zero, suc, ◌+◌, ◌≤◌, ◌<◌}
 use native.Mathlib.Omega.{arith}
 use mathlib.Core.Path.{◌≡◌, refl, ◌∙◌, sym, ap}
@@ -13,8 +14,6 @@ use Rattle.basics.specs.Bytes.{AreBytes}
 use Rattle.basics.specs.Choice.{pick}
 use Rattle.number.specs.Number.{greatest, number_bytes, number_at, then_number}
 use Rattle.items.specs.Text.{text_bytes, text_at, then_text}
-use Rattle.number.specs.declared.Number.{Number}
-use Rattle.number.specs.declared.Number.TheVariants.{Value, NotNumber}
 use Rattle.items.specs.declared.Text.{Text}
 use Rattle.items.specs.declared.Text.TheVariants.{Place, NotText}
 use Rattle.tables.specs.Layout.{Layout, number, sized, may_end, text, ended, any, three_texts, member_then, members_then, record_then, records_then, run_by}
@@ -153,7 +152,7 @@ module _ (bytes : List ℕ) (are : AreBytes bytes) where
   number_back right following at end e = by_number (number_at greatest bytes at) refl e
     where
       by_rule :
-          (v next : ℕ) → number_at greatest bytes at ≡ Value v next → (t : Bool) → right v ≡ t →
+          (v next : ℕ) → number_at greatest bytes at ≡ Some (v, next) → (t : Bool) → right v ≡ t →
           pick t (run_by (following v) bytes next) (Wrong at) ≡ End end → NumberBefore right following at end
       by_rule v next f true g q =
           let read = number_stands greatest bytes at v next are f in
@@ -167,11 +166,11 @@ module _ (bytes : List ℕ) (are : AreBytes bytes) where
       by_rule v next f false g q = let y : ◌≡◌ {A = ℕ} 0 1 = cc in absurd (omega arith)
 
       by_number :
-          (n : Number) → number_at greatest bytes at ≡ n →
+          (n : Option (ℕ × ℕ)) → number_at greatest bytes at ≡ n →
           then_number n (Wrong at) (λ v next. pick (right v) (run_by (following v) bytes next) (Wrong at)) ≡ End end →
           NumberBefore right following at end
-      by_number (Value v next) f q = by_rule v next f (right v) refl q
-      by_number NotNumber f q = let y : ◌≡◌ {A = ℕ} 0 1 = cc in absurd (omega arith)
+      by_number (Some (v, next)) f q = by_rule v next f (right v) refl q
+      by_number None f q = let y : ◌≡◌ {A = ℕ} 0 1 = cc in absurd (omega arith)
 
   -- a text that a run passed
   pub record TextBefore (following : Layout) (at end : ℕ) : Type 0 where

@@ -1,5 +1,7 @@
 -- Numbers and texts read back: what stands at a place is read there, and what is read stands there.
 -- Assumes nothing.
+use Rattle.std.specs.Prelude.{Option, Some, None}
+use Rattle.std.proofs.lemmas.Option.{some_pair_parts}
 use Prim.Native.Nat.{ℕ, zero, suc, ◌+◌, ◌-◌, ◌*◌, ◌/◌, ◌%◌, ◌≤◌, ◌<◌}
 use native.Mathlib.Omega.{arith}
 use mathlib.Core.Path.{◌≡◌, refl, ◌∙◌, sym, ap, ap₂, subst}
@@ -13,8 +15,6 @@ use Rattle.basics.specs.Bytes.{AreBytes}
 use Rattle.basics.specs.Choice.{pick}
 use Rattle.number.specs.Number.{greatest, groups_of, number_bytes, further, grouped, number_from, limited, number_at, then_number}
 use Rattle.items.specs.Text.{text_bytes, text_at}
-use Rattle.number.specs.declared.Number.{Number}
-use Rattle.number.specs.declared.Number.TheVariants.{Value, NotNumber}
 use Rattle.items.specs.declared.Text.TheVariants.{Place, NotText}
 use Rattle.cases.specs.Standing.{Stands}
 
@@ -58,35 +58,35 @@ bytes_behind bytes at are i = subst (λ (b : ℕ). b < 256) (sym (get_or-drop at
 
 from_groups :
     (k v : ℕ) → v ≤ k → (rest : List ℕ) (at : ℕ) →
-    number_from (groups_of k v ++ rest) at ≡ Value v (at + length (groups_of k v))
+    number_from (groups_of k v ++ rest) at ≡ Some (v, at + length (groups_of k v))
 unfolding number_from groups_of
 from_groups zero v enough rest at = let small : v < 128 = omega arith in rw (lt-ltb v 128 small)
 from_groups (suc k) v enough rest at = by_test (ltb v 128) refl (λ less. from_groups k (v / 128) less rest (at + 1))
   where
     by_test :
         (t : Bool) → ltb v 128 ≡ t →
-        (v / 128 ≤ k → number_from (groups_of k (v / 128) ++ rest) (at + 1) ≡ Value (v / 128) (at + 1 + length (groups_of k (v / 128)))) →
-        number_from (groups_of (suc k) v ++ rest) at ≡ Value v (at + length (groups_of (suc k) v))
+        (v / 128 ≤ k → number_from (groups_of k (v / 128) ++ rest) (at + 1) ≡ Some (v / 128, at + 1 + length (groups_of k (v / 128)))) →
+        number_from (groups_of (suc k) v ++ rest) at ≡ Some (v, at + length (groups_of (suc k) v))
     by_test true e high = rw (e, e)
     by_test false e high =
         let large : 128 ≤ v = ltb-false v 128 e in
         let some : v / 128 ≡ 0 → ⊥ = λ z. omega (arith, z) in
         rw (e, le-ltb (128 + v % 128) 128 (omega arith), high (omega arith), ne_eqb (v / 128) 0 some)
-        (ap₂ Value (omega arith) (omega arith))
+        (ap₂ (λ w after. Some (w, after)) (omega arith) (omega arith))
 
 pub number_reads :
     (limit : ℕ) (bytes : List ℕ) (at v : ℕ) → v ≤ limit → Stands bytes at (number_bytes v) →
-    number_at limit bytes at ≡ Value v (at + length (number_bytes v))
+    number_at limit bytes at ≡ Some (v, at + length (number_bytes v))
 unfolding number_at number_bytes
 number_reads limit bytes at v fits s = rw (s.is, from_groups v v (omega arith) s.rest at, le-leb v limit fits)
 
 -- ---- a number that is read stands
 
 -- a run of bytes starts with the groups of the number read from it
-abbrev StartsWith : List ℕ → ℕ → Number → Type 0
-StartsWith run at (Value v next) =
+abbrev StartsWith : List ℕ → ℕ → Option (ℕ × ℕ) → Type 0
+StartsWith run at (Some (v, next)) =
     (k : ℕ) → v ≤ k → (rest : List ℕ) × (run ≡ groups_of k v ++ rest) × (next ≡ at + length (groups_of k v))
-StartsWith run at NotNumber = Unit {0}
+StartsWith run at None = Unit {0}
 
 pub one_group : (k v : ℕ) → v < 128 → groups_of k v ≡ v ∷ []
 unfolding groups_of
@@ -111,11 +111,11 @@ starts_with (group ∷ rest) at are =
     byte = are 0
 
     by_more :
-        128 ≤ group → (n : Number) → StartsWith rest (at + 1) n → StartsWith (group ∷ rest) at (further (group - 128) n)
-    by_more large (Value high next) h = by_zero (eqb high 0) refl
+        128 ≤ group → (n : Option (ℕ × ℕ)) → StartsWith rest (at + 1) n → StartsWith (group ∷ rest) at (further (group - 128) n)
+    by_more large (Some (high, next)) h = by_zero (eqb high 0) refl
       where
         by_zero :
-            (z : Bool) → eqb high 0 ≡ z → StartsWith (group ∷ rest) at (pick z NotNumber (Value (group - 128 + 128 * high) next))
+            (z : Bool) → eqb high 0 ≡ z → StartsWith (group ∷ rest) at (pick z None (Some (group - 128 + 128 * high, next)))
         by_zero true e = tt
         by_zero false e = groups
           where
@@ -133,7 +133,7 @@ starts_with (group ∷ rest) at are =
                 let same : 128 + (group - 128) ≡ group = omega arith in
                 let is = more_groups k (group - 128 + 128 * high) (group - 128) high refl (omega (arith, byte)) above in
                 (following.0, rw (is, same, ← following.1), rw is (omega (arith, following.2)))
-    by_more large NotNumber h = tt
+    by_more large None h = tt
 
     by_test :
         (t : Bool) → ltb group 128 ≡ t → StartsWith rest (at + 1) (number_from rest (at + 1)) →
@@ -147,23 +147,24 @@ starts_with (group ∷ rest) at are =
     by_test false e h = by_more (ltb-false group 128 e) (number_from rest (at + 1)) h
 
 pub number_stands :
-    (limit : ℕ) (bytes : List ℕ) (at v next : ℕ) → AreBytes bytes → number_at limit bytes at ≡ Value v next →
+    (limit : ℕ) (bytes : List ℕ) (at v next : ℕ) → AreBytes bytes → number_at limit bytes at ≡ Some (v, next) →
     Stands bytes at (number_bytes v) × (next ≡ at + length (number_bytes v)) × (v ≤ limit)
 unfolding number_at number_bytes
 number_stands limit bytes at v next are e =
     of (number_from (drop at bytes) at) (starts_with (drop at bytes) at (bytes_behind bytes at are)) e
   where
     of :
-        (n : Number) → StartsWith (drop at bytes) at n → limited limit n ≡ Value v next →
+        (n : Option (ℕ × ℕ)) → StartsWith (drop at bytes) at n → limited limit n ≡ Some (v, next) →
         Stands bytes at (groups_of v v) × (next ≡ at + length (groups_of v v)) × (v ≤ limit)
-    of (Value w after) h q = by_test (leb w limit) refl q
+    of (Some (w, after)) h q = by_test (leb w limit) refl q
       where
         by_test :
-            (t : Bool) → leb w limit ≡ t → pick t (Value w after) NotNumber ≡ Value v next →
+            (t : Bool) → leb w limit ≡ t → pick {A = Option (ℕ × ℕ)} t (Some (w, after)) None ≡ Some (v, next) →
             Stands bytes at (groups_of v v) × (next ≡ at + length (groups_of v v)) × (v ≤ limit)
         by_test true f q =
-            let same : w ≡ v = cc in
-            let there : after ≡ next = cc in
+            let parts = some_pair_parts w v after next q in
+            let same : w ≡ v = parts.0 in
+            let there : after ≡ next = parts.1 in
             let groups = h w (omega arith) in
             let stands : Stands bytes at (groups_of w w) = record { rest = groups.0; is = groups.1 } in (
               subst (λ (x : ℕ). Stands bytes at (groups_of x x)) same stands,
@@ -171,7 +172,7 @@ number_stands limit bytes at v next are e =
               omega (arith, same, leb-true w limit f),
             )
         by_test false f q = let z : ◌≡◌ {A = ℕ} 0 1 = cc in absurd (omega arith)
-    of NotNumber h q = let z : ◌≡◌ {A = ℕ} 0 1 = cc in absurd (omega arith)
+    of None h q = let z : ◌≡◌ {A = ℕ} 0 1 = cc in absurd (omega arith)
 
 -- ---- texts
 
@@ -209,7 +210,7 @@ unfolding text_at text_bytes
 text_stands bytes at start size are e = of (number_at greatest bytes at) refl e
   where
     there :
-        number_at greatest bytes at ≡ Value size start → size ≤ length bytes - start → TextStands bytes at start size
+        number_at greatest bytes at ≡ Some (size, start) → size ≤ length bytes - start → TextStands bytes at start size
     there q inside =
         let read = number_stands greatest bytes at size start are q in
         let own = take size (drop start bytes) in
@@ -226,16 +227,16 @@ text_stands bytes at start size are e = of (number_at greatest bytes at) refl e
         }
 
     of :
-        (n : Number) → number_at greatest bytes at ≡ n →
+        (n : Option (ℕ × ℕ)) → number_at greatest bytes at ≡ n →
         then_number n NotText (λ m s. pick (leb m (length bytes - s)) (Place s m) NotText) ≡ Place start size →
         TextStands bytes at start size
-    of (Value m s) q f = by_test (leb m (length bytes - s)) refl f
+    of (Some (m, s)) q f = by_test (leb m (length bytes - s)) refl f
       where
         by_test : (t : Bool) → leb m (length bytes - s) ≡ t → pick t (Place s m) NotText ≡ Place start size → TextStands bytes at start size
         by_test true h g =
-            let same : number_at greatest bytes at ≡ Value size start = cc in
+            let same : number_at greatest bytes at ≡ Some (size, start) = cc in
             let sizes : m ≡ size = cc in
             let starts : s ≡ start = cc in
             there same (omega (arith, sizes, starts, leb-true m (length bytes - s) h))
         by_test false h g = let z : ◌≡◌ {A = ℕ} 0 1 = cc in absurd (omega arith)
-    of NotNumber q f = let z : ◌≡◌ {A = ℕ} 0 1 = cc in absurd (omega arith)
+    of None q f = let z : ◌≡◌ {A = ℕ} 0 1 = cc in absurd (omega arith)

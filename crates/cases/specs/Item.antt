@@ -2,11 +2,10 @@
 -- another byte follows, in its fewest bytes (one to three). A text is a length number and that many bytes."). The statements
 -- at the end are proved in proofs/ of this crate, for any limit.
 -- Assumes nothing.
-use Rattle.std.specs.Prelude.{ℕ, ◌+◌, ◌*◌, ◌≤◌, ◌<◌, ◌≡◌, List, [], ◌∷◌, length, take, drop}
+use Rattle.std.specs.Prelude.{ℕ, ◌+◌, ◌*◌, ◌≤◌, ◌<◌, ◌≡◌, List, [], ◌∷◌, length, take, drop, Some}
 use Rattle.basics.specs.Bytes.{AreBytes}
 use Rattle.number.specs.Number.{greatest, number_bytes, number_at}
 use Rattle.items.specs.Text.{text_bytes, text_at}
-use Rattle.number.specs.declared.Number.TheVariants.{Value}
 use Rattle.items.specs.declared.Text.TheVariants.{Place}
 use Rattle.cases.specs.Standing.{Stands}
 
@@ -26,9 +25,9 @@ pub record NumberDeclared : Type 0 where
   pub three_at_most : (v : ℕ) → v ≤ greatest → length (number_bytes v) ≤ 3
   pub reads :
       (limit : ℕ) (bytes : List ℕ) (at v : ℕ) → v ≤ limit → Stands bytes at (number_bytes v) →
-      number_at limit bytes at ≡ Value v (at + length (number_bytes v))
+      number_at limit bytes at ≡ Some (v, at + length (number_bytes v))
   pub stands :
-      (limit : ℕ) (bytes : List ℕ) (at v next : ℕ) → AreBytes bytes → number_at limit bytes at ≡ Value v next →
+      (limit : ℕ) (bytes : List ℕ) (at v next : ℕ) → AreBytes bytes → number_at limit bytes at ≡ Some (v, next) →
       Stands bytes at (number_bytes v) × (next ≡ at + length (number_bytes v)) × (v ≤ limit)
 
 -- A text is read, as the place of its bytes, exactly where it stands and is at most 65,535 bytes long.

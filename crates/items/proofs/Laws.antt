@@ -1,5 +1,6 @@
 -- A text that is read lies in the bytes.
 -- Assumes nothing.
+use Rattle.std.specs.Prelude.{Option, Some, None}
 use Prim.Native.Nat.{ℕ, ◌-◌}
 use native.Mathlib.Omega.{arith}
 use mathlib.Core.Path.{◌≡◌, refl}
@@ -11,8 +12,6 @@ use borrow.Author.Tests.{leb-true}
 use Rattle.basics.specs.Choice.{pick}
 use Rattle.number.proofs.Laws.{number-within}
 use Rattle.number.specs.Number.{greatest, number_at, number_within, then_number}
-use Rattle.number.specs.declared.Number.{Number}
-use Rattle.number.specs.declared.Number.TheVariants.{Value, NotNumber}
 use Rattle.items.specs.Text.{text_at, text_within}
 use Rattle.items.specs.declared.Text.TheVariants.{Place, NotText}
 
@@ -21,13 +20,13 @@ unfolding text_at
 text-within bytes at = of (number_at greatest bytes at) (number-within greatest bytes at)
   where
     of :
-        (n : Number) → number_within greatest (length bytes) at n →
+        (n : Option (ℕ × ℕ)) → number_within greatest (length bytes) at n →
         text_within (length bytes) at
         (then_number n NotText (λ size start. pick (leb size (length bytes - start)) (Place start size) NotText))
-    of (Value size start) h = by_test (leb size (length bytes - start)) refl
+    of (Some (size, start)) h = by_test (leb size (length bytes - start)) refl
       where
         by_test :
             (t : Bool) → leb size (length bytes - start) ≡ t → text_within (length bytes) at (pick t (Place start size) NotText)
         by_test true e = (h.0, h.1, omega (arith, leb-true size (length bytes - start) e))
         by_test false e = tt
-    of NotNumber h = tt
+    of None h = tt

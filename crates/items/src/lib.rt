@@ -5,7 +5,7 @@
 ghost use Rattle.std.specs.Prelude.{◌≡◌, length};
 ghost use Rattle.items.specs.Text.{text_at, text_within, part_at, text_part, after_text, class_of, name_of, descriptor_of};
 
-use number::{Number, case_number};
+use number::case_number;
 
 // What reading a text answers.
 #[derive(Clone, Copy)]
@@ -19,7 +19,7 @@ pub enum Text {
 pub fn read_text(bytes: &[u8], at: usize) -> Text
     ensures { (result ≡ text_at bytes.now at) × text_within (length bytes.now) at result }
 {
-    let Number::Value(length, start) = case_number(bytes, at) else {
+    let Some((length, start)) = case_number(bytes, at) else {
         return Text::NotText;
     };
     if length <= bytes.len() - start {

@@ -1,5 +1,6 @@
 -- A lookup, one member further; and that it finds nothing at or below the last index, since indexes rise.
 -- Assumes nothing.
+use Rattle.std.specs.Prelude.{Option, Some, None}
 use Prim.Native.Nat.{ℕ, zero, suc, ◌-◌, ◌≤◌, ◌<◌}
 use native.Mathlib.Nat.{not-suc-le-zero}
 use native.Mathlib.Numerals.{sub-one}
@@ -11,8 +12,6 @@ use lib.Dec.{eqb, ltb, leb}
 use borrow.Author.Tests.{ltb-true, ne_eqb}
 use Rattle.basics.specs.Choice.{pick}
 use Rattle.number.specs.Number.{greatest, number_at, then_number}
-use Rattle.number.specs.declared.Number.{Number}
-use Rattle.number.specs.declared.Number.TheVariants.{Value, NotNumber}
 use Rattle.tables.specs.Layout.{three_texts, ended, run_by, then_run}
 use Rattle.tables.specs.Member.{member_at, then_member}
 use Rattle.tables.specs.declared.Member.{Member}
@@ -47,7 +46,7 @@ member_above bytes last at = by_index (number_at greatest bytes at)
         then_run r (λ place. members.Wrong place) (λ next.
         members.Read (record { index = index; kind = kind; texts = texts; next = next }))
 
-    kinded : ℕ → ℕ → Number → Member
+    kinded : ℕ → ℕ → Option (ℕ × ℕ) → Member
     kinded index kind_at n =
         then_number n (members.Wrong kind_at) (λ kind texts.
         pick (leb kind 1) (texted index kind texts (run_by (three_texts ended) bytes texts)) (members.Wrong kind_at))
@@ -62,9 +61,9 @@ member_above bytes last at = by_index (number_at greatest bytes at)
     by_kind_rule index kind_at kind texts above true = by_texts index kind texts above (run_by (three_texts ended) bytes texts)
     by_kind_rule index kind_at kind texts above false = tt
 
-    by_kind : (index kind_at : ℕ) → last < index → (n : Number) → Above last (kinded index kind_at n)
-    by_kind index kind_at above (Value kind texts) = by_kind_rule index kind_at kind texts above (leb kind 1)
-    by_kind index kind_at above NotNumber = tt
+    by_kind : (index kind_at : ℕ) → last < index → (n : Option (ℕ × ℕ)) → Above last (kinded index kind_at n)
+    by_kind index kind_at above (Some (kind, texts)) = by_kind_rule index kind_at kind texts above (leb kind 1)
+    by_kind index kind_at above None = tt
 
     by_index_rule :
         (index kind_at : ℕ) (t : Bool) → ltb last index ≡ t →
@@ -73,12 +72,12 @@ member_above bytes last at = by_index (number_at greatest bytes at)
     by_index_rule index kind_at false e = tt
 
     by_index :
-        (n : Number) →
+        (n : Option (ℕ × ℕ)) →
         Above last
         (then_number n (members.Wrong at) (λ index kind_at.
         pick (ltb last index) (kinded index kind_at (number_at greatest bytes kind_at)) (members.Wrong at)))
-    by_index (Value index kind_at) = by_index_rule index kind_at (ltb last index) refl
-    by_index NotNumber = tt
+    by_index (Some (index, kind_at)) = by_index_rule index kind_at (ltb last index) refl
+    by_index None = tt
 
 -- at or below the last index none is found
 pub found_none :

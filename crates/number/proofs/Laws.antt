@@ -1,5 +1,6 @@
 -- A number lies in the bytes that it is read from; and a number by its first group, as the code reads it.
 -- Assumes nothing.
+use Rattle.std.specs.Prelude.{Option, Some, None}
 use Prim.Native.Nat.{ℕ, suc, ◌+◌, ◌-◌, ◌*◌, ◌/◌, ◌≤◌, ◌<◌}
 use native.Mathlib.Omega.{arith}
 use native.Mathlib.Numerals.{add-one}
@@ -12,8 +13,6 @@ use lib.Seq.{drop-cons}
 use borrow.Author.Tests.{lt-ltb, le-ltb, le-leb, lt-leb, eqb-false, ltb-true, ltb-false, leb-true, leb-false}
 use Rattle.basics.specs.Choice.{pick}
 use Rattle.number.specs.Number.{further, grouped, number_from, limited, number_at, number_within, rest_within}
-use Rattle.number.specs.declared.Number.{Number}
-use Rattle.number.specs.declared.Number.TheVariants.{Value, NotNumber}
 
 -- what is equal to a thing that has a property has it too
 pub kept : {A : Type 0} (P : A → Type 0) {r wanted : A} → r ≡ wanted → P wanted → (r ≡ wanted) × P r
@@ -22,17 +21,17 @@ kept P e holds = (e, subst P (sym e) holds)
 -- ---- where a number lies
 
 -- a number that a run of so many bytes from a place on starts with
-abbrev FromWithin : ℕ → ℕ → Number → Type 0
-FromWithin size at (Value v next) = (at < next) × (next ≤ at + size)
-FromWithin size at NotNumber = Unit {0}
+abbrev FromWithin : ℕ → ℕ → Option (ℕ × ℕ) → Type 0
+FromWithin size at (Some (v, next)) = (at < next) × (next ≤ at + size)
+FromWithin size at None = Unit {0}
 
-further_within : (size at low : ℕ) (n : Number) → FromWithin size (at + 1) n → FromWithin (suc size) at (further low n)
-further_within size at low (Value v next) h = by_test (eqb v 0)
+further_within : (size at low : ℕ) (n : Option (ℕ × ℕ)) → FromWithin size (at + 1) n → FromWithin (suc size) at (further low n)
+further_within size at low (Some (v, next)) h = by_test (eqb v 0)
   where
-    by_test : (t : Bool) → FromWithin (suc size) at (pick t NotNumber (Value (low + 128 * v) next))
+    by_test : (t : Bool) → FromWithin (suc size) at (pick t None (Some (low + 128 * v, next)))
     by_test true = tt
     by_test false = (omega arith, omega arith)
-further_within size at low NotNumber h = tt
+further_within size at low None h = tt
 
 from_within : (run : List ℕ) (at : ℕ) → FromWithin (length run) at (number_from run at)
 unfolding number_from
@@ -49,31 +48,31 @@ pub number-within : (limit : ℕ) (bytes : List ℕ) (at : ℕ) → number_withi
 unfolding number_at
 number-within limit bytes at = of (number_from (drop at bytes) at) (from_within (drop at bytes) at)
   where
-    of : (n : Number) → FromWithin (length (drop at bytes)) at n → number_within limit (length bytes) at (limited limit n)
-    of (Value v next) h = by_test (leb v limit) refl
+    of : (n : Option (ℕ × ℕ)) → FromWithin (length (drop at bytes)) at n → number_within limit (length bytes) at (limited limit n)
+    of (Some (v, next)) h = by_test (leb v limit) refl
       where
-        by_test : (t : Bool) → leb v limit ≡ t → number_within limit (length bytes) at (pick t (Value v next) NotNumber)
+        by_test : (t : Bool) → leb v limit ≡ t → number_within limit (length bytes) at (pick t (Some (v, next)) None)
         by_test true e = (leb-true v limit e, omega arith, omega (arith, length-drop at bytes))
         by_test false e = tt
-    of NotNumber h = tt
+    of None h = tt
 
 -- an answer that is the definition's lies in the bytes as its numbers do
 pub whole :
-    (bytes : List ℕ) (at limit : ℕ) {r : Number} → r ≡ number_at limit bytes at →
+    (bytes : List ℕ) (at limit : ℕ) {r : Option (ℕ × ℕ)} → r ≡ number_at limit bytes at →
     (r ≡ number_at limit bytes at) × number_within limit (length bytes) at r
-whole bytes at limit e = kept (λ (n : Number). number_within limit (length bytes) at n) e (number-within limit bytes at)
+whole bytes at limit e = kept (λ (n : Option (ℕ × ℕ)). number_within limit (length bytes) at n) e (number-within limit bytes at)
 
 -- ---- a number by its first group
 
 module _ (limit : ℕ) (bytes : List ℕ) (at : ℕ) where
-  pub number_past : length bytes ≤ at → number_at limit bytes at ≡ NotNumber
+  pub number_past : length bytes ≤ at → number_at limit bytes at ≡ None
   unfolding number_at number_from
   number_past past = rw (drop_of_length-le bytes past)
 
   module _ (inside : at < length bytes) where
     pub number_one :
         get_or bytes at 0 < 128 →
-        number_at limit bytes at ≡ pick (leb (get_or bytes at 0) limit) (Value (get_or bytes at 0) (at + 1)) NotNumber
+        number_at limit bytes at ≡ pick (leb (get_or bytes at 0) limit) (Some (get_or bytes at 0, at + 1)) None
     unfolding number_at number_from
     number_one below = rw (drop-cons bytes at 0 inside, lt-ltb _ _ below)
 
@@ -87,32 +86,32 @@ module _ (limit : ℕ) (bytes : List ℕ) (at : ℕ) where
 
 -- the limit of what follows a low group
 limited_further :
-    (limit low : ℕ) → low ≤ limit → (n : Number) → limited limit (further low n) ≡ further low (limited ((limit - low) / 128) n)
-limited_further limit low fits (Value v next) = by_test (eqb v 0) refl (leb v ((limit - low) / 128)) refl
+    (limit low : ℕ) → low ≤ limit → (n : Option (ℕ × ℕ)) → limited limit (further low n) ≡ further low (limited ((limit - low) / 128) n)
+limited_further limit low fits (Some (v, next)) = by_test (eqb v 0) refl (leb v ((limit - low) / 128)) refl
   where
     by_test :
         (z : Bool) → eqb v 0 ≡ z → (t : Bool) → leb v ((limit - low) / 128) ≡ t →
-        limited limit (pick z NotNumber (Value (low + 128 * v) next)) ≡ further low (pick t (Value v next) NotNumber)
+        limited limit (pick z None (Some (low + 128 * v, next))) ≡ further low (pick t (Some (v, next)) None)
     by_test true e true f = rw e
     by_test true e false f = refl
     by_test false e true f = rw (e, le-leb (low + 128 * v) limit (omega (arith, leb-true v ((limit - low) / 128) f)))
     by_test false e false f = rw (lt-leb (low + 128 * v) limit (omega (arith, leb-false v ((limit - low) / 128) f)))
-limited_further limit low fits NotNumber = refl
+limited_further limit low fits None = refl
 
 -- below a limit of 128 nothing is in more than one group
-small_further : (limit low : ℕ) → limit < 128 → (n : Number) → limited limit (further low n) ≡ NotNumber
-small_further limit low small (Value v next) = by_test (eqb v 0) refl
+small_further : (limit low : ℕ) → limit < 128 → (n : Option (ℕ × ℕ)) → limited limit (further low n) ≡ None
+small_further limit low small (Some (v, next)) = by_test (eqb v 0) refl
   where
-    by_test : (z : Bool) → eqb v 0 ≡ z → limited limit (pick z NotNumber (Value (low + 128 * v) next)) ≡ NotNumber
+    by_test : (z : Bool) → eqb v 0 ≡ z → limited limit (pick z None (Some (low + 128 * v, next))) ≡ None
     by_test true e = refl
     by_test false e =
         let some : v ≡ 0 → ⊥ = eqb-false v 0 e in
         let above : 0 < v = omega arith in
         rw (lt-leb (low + 128 * v) limit (omega arith))
-small_further limit low small NotNumber = refl
+small_further limit low small None = refl
 
 module _ (limit : ℕ) (bytes : List ℕ) (at : ℕ) (inside : at < length bytes) (above : 128 ≤ get_or bytes at 0) where
-  pub number_small : limit < 128 → number_at limit bytes at ≡ NotNumber
+  pub number_small : limit < 128 → number_at limit bytes at ≡ None
   unfolding number_at
   number_small small =
       rw (from_more limit bytes at inside above)
@@ -129,10 +128,10 @@ module _ (limit : ℕ) (bytes : List ℕ) (at : ℕ) (inside : at < length bytes
 -- one group above a limit below 128
 pub number_above :
     (limit : ℕ) (bytes : List ℕ) (at : ℕ) → at < length bytes → limit < 128 → limit < get_or bytes at 0 →
-    number_at limit bytes at ≡ NotNumber
+    number_at limit bytes at ≡ None
 number_above limit bytes at inside small over = by_test (ltb (get_or bytes at 0) 128) refl
   where
-    by_test : (t : Bool) → ltb (get_or bytes at 0) 128 ≡ t → number_at limit bytes at ≡ NotNumber
+    by_test : (t : Bool) → ltb (get_or bytes at 0) 128 ≡ t → number_at limit bytes at ≡ None
     by_test true e =
         number_one limit bytes at inside (ltb-true (get_or bytes at 0) 128 e) ∙ rw (lt-leb (get_or bytes at 0) limit over)
     by_test false e = number_small limit bytes at inside (ltb-false (get_or bytes at 0) 128 e) small
@@ -146,8 +145,8 @@ number_behind limit inner bytes at inside above byte large e = rw (← e) (numbe
 
 -- what follows a first group is at most 511
 pub rest_fits :
-    (limit size at : ℕ) (n : Number) → limit ≤ 511 → number_within limit size at n → rest_within n
-rest_fits limit size at (Value v next) small h = omega (arith, h.0)
-rest_fits limit size at NotNumber small h = tt
+    (limit size at : ℕ) (n : Option (ℕ × ℕ)) → limit ≤ 511 → number_within limit size at n → rest_within n
+rest_fits limit size at (Some (v, next)) small h = omega (arith, h.0)
+rest_fits limit size at None small h = tt
 
 -- ---- where a text lies

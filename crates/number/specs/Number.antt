@@ -1,9 +1,7 @@
 -- A number of a case (document 01, "The case").
 -- Assumes nothing.
-use Rattle.std.specs.Prelude.{ℕ, zero, suc, ◌+◌, ◌-◌, ◌*◌, ◌/◌, ◌%◌, ◌≤◌, ◌<◌, Bool, true, false, List, [], ◌∷◌, eqb, ltb, leb, drop}
+use Rattle.std.specs.Prelude.{ℕ, zero, suc, ◌+◌, ◌-◌, ◌*◌, ◌/◌, ◌%◌, ◌≤◌, ◌<◌, Bool, true, false, List, [], ◌∷◌, eqb, ltb, leb, drop, Option, Some, None}
 use Rattle.basics.specs.Choice.{pick}
-use Rattle.number.specs.declared.Number.{Number}
-use Rattle.number.specs.declared.Number.TheVariants.{Value, NotNumber}
 
 -- "A number is 0 to 65,535"
 abbrev pub greatest : ℕ
@@ -29,40 +27,40 @@ number_bytes v = groups_of v v
 -- ---- reading a number
 
 -- a low group before a number: in the fewest bytes only where that number is above 0
-abbrev pub further : ℕ → Number → Number
-further low (Value high next) = pick (eqb high 0) NotNumber (Value (low + 128 * high) next)
-further low NotNumber = NotNumber
+abbrev pub further : ℕ → Option (ℕ × ℕ) → Option (ℕ × ℕ)
+further low (Some (high, next)) = pick (eqb high 0) None (Some (low + 128 * high, next))
+further low None = None
 
 -- a byte below 128 ends the number, any other goes before what follows
-abbrev pub grouped : Bool → ℕ → ℕ → (ℕ → Number) → Number
-grouped true group at following = Value group (at + 1)
+abbrev pub grouped : Bool → ℕ → ℕ → (ℕ → Option (ℕ × ℕ)) → Option (ℕ × ℕ)
+grouped true group at following = Some (group, at + 1)
 grouped false group at following = further (group - 128) (following (at + 1))
 
 -- the number that a run of bytes starts with, whose first byte has this place
-unfoldable pub number_from : List ℕ → ℕ → Number
-number_from [] at = NotNumber
+unfoldable pub number_from : List ℕ → ℕ → Option (ℕ × ℕ)
+number_from [] at = None
 number_from (group ∷ rest) at = grouped (ltb group 128) group at (λ next. number_from rest next)
 
 -- a number at most the limit
-abbrev pub limited : ℕ → Number → Number
-limited limit (Value v next) = pick (leb v limit) (Value v next) NotNumber
-limited limit NotNumber = NotNumber
+abbrev pub limited : ℕ → Option (ℕ × ℕ) → Option (ℕ × ℕ)
+limited limit (Some (v, next)) = pick (leb v limit) (Some (v, next)) None
+limited limit None = None
 
 -- the number at a place, at most the limit
-unfoldable pub number_at : ℕ → List ℕ → ℕ → Number
+unfoldable pub number_at : ℕ → List ℕ → ℕ → Option (ℕ × ℕ)
 number_at limit bytes at = limited limit (number_from (drop at bytes) at)
 
 -- what follows a number, or the answer where there is none
-abbrev pub then_number : {A : Type 0} → Number → A → (ℕ → ℕ → A) → A
-then_number (Value v next) otherwise following = following v next
-then_number NotNumber otherwise following = otherwise
+abbrev pub then_number : {A : Type 0} → Option (ℕ × ℕ) → A → (ℕ → ℕ → A) → A
+then_number (Some (v, next)) otherwise following = following v next
+then_number None otherwise following = otherwise
 
 -- a number that is read is at most the limit, and lies in the bytes
-abbrev pub number_within : ℕ → ℕ → ℕ → Number → Type 0
-number_within limit size at (Value v next) = (v ≤ limit) × (at < next) × (next ≤ size)
-number_within limit size at NotNumber = Unit {0}
+abbrev pub number_within : ℕ → ℕ → ℕ → Option (ℕ × ℕ) → Type 0
+number_within limit size at (Some (v, next)) = (v ≤ limit) × (at < next) × (next ≤ size)
+number_within limit size at None = Unit {0}
 
 -- a number behind a first group: the greatest has 511 there
-abbrev pub rest_within : Number → Type 0
-rest_within (Value v next) = v ≤ 511
-rest_within NotNumber = Unit {0}
+abbrev pub rest_within : Option (ℕ × ℕ) → Type 0
+rest_within (Some (v, next)) = v ≤ 511
+rest_within None = Unit {0}

@@ -7,94 +7,82 @@ ghost use Rattle.number.specs.Number.{greatest, further, number_at, number_withi
 // The greatest number of a case has three groups, the last of which is this.
 const LAST_GROUP: usize = 3;
 
-// What reading a number answers.
-#[derive(Clone, Copy)]
-pub enum Number {
-    // The number, and the place after it.
-    Value(usize, usize),
-    NotNumber,
-}
-
 // The number at a place, at most the limit. The groups behind the first are a number themselves, whose limit is what
 // the first leaves; it is above 0, or the bytes would not be the fewest.
-pub fn read_number(bytes: &[u8], at: usize, limit: usize) -> Number
+pub fn read_number(bytes: &[u8], at: usize, limit: usize) -> Option<(usize, usize)>
     ensures { (result ≡ number_at limit bytes.now at) × number_within limit (length bytes.now) at result }
 {
     if bytes.len() <= at {
-        return Number::NotNumber;
+        return None;
     }
     let group = bytes[at] as usize;
     if group < 128 {
         if group <= limit {
-            return Number::Value(group, at + 1);
+            return Some((group, at + 1));
         }
-        return Number::NotNumber;
+        return None;
     }
     if limit < 128 {
-        return Number::NotNumber;
+        return None;
     }
     let low = group - 128;
-    let Number::Value(high, next) = read_number(bytes, at + 1, (limit - low) / 128) else {
-        return Number::NotNumber;
-    };
+    let (high, next) = read_number(bytes, at + 1, (limit - low) / 128)?;
     if high == 0 {
-        return Number::NotNumber;
+        return None;
     }
-    Number::Value(low + 128 * high, next)
+    Some((low + 128 * high, next))
 }
 
 // A low group before a number that is read: in the fewest bytes only where that number is above 0.
-fn joined(low: usize, rest: Number) -> Number
+fn joined(low: usize, rest: Option<(usize, usize)>) -> Option<(usize, usize)>
     requires { (low < 128) × rest_within rest }
     ensures { result ≡ further low rest }
 {
-    let Number::Value(above, next) = rest else {
-        return Number::NotNumber;
-    };
+    let (above, next) = rest?;
     if above == 0 {
-        return Number::NotNumber;
+        return None;
     }
-    Number::Value(low + 128 * above, next)
+    Some((low + 128 * above, next))
 }
 
 // The third group of a number of a case.
-fn third_group(bytes: &[u8], at: usize) -> Number
+fn third_group(bytes: &[u8], at: usize) -> Option<(usize, usize)>
     ensures { (result ≡ number_at 3 bytes.now at) × number_within 3 (length bytes.now) at result }
 {
     if bytes.len() <= at {
-        return Number::NotNumber;
+        return None;
     }
     let group = bytes[at] as usize;
     if LAST_GROUP < group {
-        return Number::NotNumber;
+        return None;
     }
-    Number::Value(group, at + 1)
+    Some((group, at + 1))
 }
 
 // The second group, and what follows it.
-fn second_group(bytes: &[u8], at: usize) -> Number
+fn second_group(bytes: &[u8], at: usize) -> Option<(usize, usize)>
     ensures { (result ≡ number_at 511 bytes.now at) × number_within 511 (length bytes.now) at result }
 {
     if bytes.len() <= at {
-        return Number::NotNumber;
+        return None;
     }
     let group = bytes[at] as usize;
     if group < 128 {
-        return Number::Value(group, at + 1);
+        return Some((group, at + 1));
     }
     joined(group - 128, third_group(bytes, at + 1))
 }
 
 // The number of a case at a place: what `read_number` reads up to 65,535, without recursion, which is faster.
-pub fn case_number(bytes: &[u8], at: usize) -> Number
+pub fn case_number(bytes: &[u8], at: usize) -> Option<(usize, usize)>
     ensures { (result ≡ number_at greatest bytes.now at) × number_within greatest (length bytes.now) at result }
 {
     if bytes.len() <= at {
-        return Number::NotNumber;
+        return None;
     }
     let group = bytes[at] as usize;
     if group < 128 {
-        return Number::Value(group, at + 1);
+        return Some((group, at + 1));
     }
     joined(group - 128, second_group(bytes, at + 1))
 }

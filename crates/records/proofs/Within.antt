@@ -1,5 +1,6 @@
 -- A record that can be read lies in the bytes, and so does a name that is found.
 -- Assumes nothing.
+use Rattle.std.specs.Prelude.{Option, Some, None}
 use Prim.Native.Nat.{ℕ, zero, suc}
 use native.Mathlib.Omega.{arith}
 use mathlib.Core.Bool.{Bool, true, false}
@@ -9,8 +10,6 @@ use lib.ListN.{length}
 use Rattle.basics.specs.Choice.{pick}
 use Rattle.number.specs.Number.{greatest, number_at, number_within, then_number}
 use Rattle.items.specs.Text.{text_at, text_within, then_text}
-use Rattle.number.specs.declared.Number.{Number}
-use Rattle.number.specs.declared.Number.TheVariants.{Value, NotNumber}
 use Rattle.items.specs.declared.Text.{Text}
 use Rattle.items.specs.declared.Text.TheVariants.{Place, NotText}
 use Rattle.number.proofs.Laws.{number-within}
@@ -27,11 +26,11 @@ module _ (bytes : List ℕ) (first : ℕ) where
   Within r = record_within (length bytes) first r
 
   by_number :
-      (at : ℕ) (x : Number) (wrong : LocalRecord) (following : ℕ → ℕ → LocalRecord) → number_within greatest (length bytes) at x →
-      Within wrong → ((v n : ℕ) → number_within greatest (length bytes) at (Value v n) → Within (following v n)) →
+      (at : ℕ) (x : Option (ℕ × ℕ)) (wrong : LocalRecord) (following : ℕ → ℕ → LocalRecord) → number_within greatest (length bytes) at x →
+      Within wrong → ((v n : ℕ) → number_within greatest (length bytes) at (Some (v, n)) → Within (following v n)) →
       Within (then_number x wrong following)
-  by_number at (Value v n) wrong following within p go = go v n within
-  by_number at NotNumber wrong following within p go = p
+  by_number at (Some (v, n)) wrong following within p go = go v n within
+  by_number at None wrong following within p go = p
 
   by_text :
       (at : ℕ) (x : Text) (wrong : LocalRecord) (following : ℕ → ℕ → LocalRecord) → text_within (length bytes) at x →

@@ -1,5 +1,6 @@
 -- A run of members or of local records, one of them at a time.
 -- Assumes nothing.
+use Rattle.std.specs.Prelude.{Option, Some, None}
 use Prim.Native.Nat.{ℕ, zero, suc, ◌+◌, ◌-◌, ◌<◌}
 use native.Mathlib.Nat.{not-suc-le-zero}
 use native.Mathlib.Numerals.{sub-one}
@@ -9,8 +10,6 @@ use mathlib.Core.List.{List}
 use lib.Dec.{ltb, leb}
 use Rattle.number.specs.Number.{greatest, number_at}
 use Rattle.items.specs.Text.{text_at, then_text}
-use Rattle.number.specs.declared.Number.{Number}
-use Rattle.number.specs.declared.Number.TheVariants.{Value, NotNumber}
 use Rattle.items.specs.declared.Text.{Text}
 use Rattle.items.specs.declared.Text.TheVariants.{Place, NotText}
 use Rattle.tables.specs.Layout.{Layout, text, three_texts, member_then, members_then, record_then, records_then, ended, run_by, then_run}
@@ -63,33 +62,33 @@ module _ (bytes : List ℕ) (last at : ℕ) (following : ℕ → Layout) where
   member-then = by_index (number_at greatest bytes at) refl
     where
       by_texts :
-          (index kind_at kind texts : ℕ) → number_at greatest bytes at ≡ Value index kind_at → ltb last index ≡ true →
-          number_at greatest bytes kind_at ≡ Value kind texts → leb kind 1 ≡ true →
+          (index kind_at kind texts : ℕ) → number_at greatest bytes at ≡ Some (index, kind_at) → ltb last index ≡ true →
+          number_at greatest bytes kind_at ≡ Some (kind, texts) → leb kind 1 ≡ true →
           (r : Run) → run_by (three_texts ended) bytes texts ≡ r → MemberThen
       by_texts index kind_at kind texts e f g h (End next) i = rw (e, f, g, h, texts_then (following index) bytes texts, i)
       by_texts index kind_at kind texts e f g h (Wrong wrong) i = rw (e, f, g, h, texts_then (following index) bytes texts, i)
 
       by_kind_rule :
-          (index kind_at kind texts : ℕ) → number_at greatest bytes at ≡ Value index kind_at → ltb last index ≡ true →
-          number_at greatest bytes kind_at ≡ Value kind texts → (t : Bool) → leb kind 1 ≡ t → MemberThen
+          (index kind_at kind texts : ℕ) → number_at greatest bytes at ≡ Some (index, kind_at) → ltb last index ≡ true →
+          number_at greatest bytes kind_at ≡ Some (kind, texts) → (t : Bool) → leb kind 1 ≡ t → MemberThen
       by_kind_rule index kind_at kind texts e f g true h =
           by_texts index kind_at kind texts e f g h (run_by (three_texts ended) bytes texts) refl
       by_kind_rule index kind_at kind texts e f g false h = rw (e, f, g, h)
 
       by_kind :
-          (index kind_at : ℕ) → number_at greatest bytes at ≡ Value index kind_at → ltb last index ≡ true →
-          (n : Number) → number_at greatest bytes kind_at ≡ n → MemberThen
-      by_kind index kind_at e f (Value kind texts) g = by_kind_rule index kind_at kind texts e f g (leb kind 1) refl
-      by_kind index kind_at e f NotNumber g = rw (e, f, g)
+          (index kind_at : ℕ) → number_at greatest bytes at ≡ Some (index, kind_at) → ltb last index ≡ true →
+          (n : Option (ℕ × ℕ)) → number_at greatest bytes kind_at ≡ n → MemberThen
+      by_kind index kind_at e f (Some (kind, texts)) g = by_kind_rule index kind_at kind texts e f g (leb kind 1) refl
+      by_kind index kind_at e f None g = rw (e, f, g)
 
       by_index_rule :
-          (index kind_at : ℕ) → number_at greatest bytes at ≡ Value index kind_at → (t : Bool) → ltb last index ≡ t → MemberThen
+          (index kind_at : ℕ) → number_at greatest bytes at ≡ Some (index, kind_at) → (t : Bool) → ltb last index ≡ t → MemberThen
       by_index_rule index kind_at e true f = by_kind index kind_at e f (number_at greatest bytes kind_at) refl
       by_index_rule index kind_at e false f = rw (e, f)
 
-      by_index : (n : Number) → number_at greatest bytes at ≡ n → MemberThen
-      by_index (Value index kind_at) e = by_index_rule index kind_at e (ltb last index) refl
-      by_index NotNumber e = rw e
+      by_index : (n : Option (ℕ × ℕ)) → number_at greatest bytes at ≡ n → MemberThen
+      by_index (Some (index, kind_at)) e = by_index_rule index kind_at e (ltb last index) refl
+      by_index None e = rw e
 
 -- a local record and what follows it
 module _ (bytes : List ℕ) (at : ℕ) (following : Layout) where
@@ -103,29 +102,29 @@ module _ (bytes : List ℕ) (at : ℕ) (following : Layout) where
   record-then = by_start (number_at greatest bytes at) refl
     where
       by_name :
-          (start length_at size slot_at slot name_at : ℕ) → number_at greatest bytes at ≡ Value start length_at →
-          number_at greatest bytes length_at ≡ Value size slot_at → number_at greatest bytes slot_at ≡ Value slot name_at →
+          (start length_at size slot_at slot name_at : ℕ) → number_at greatest bytes at ≡ Some (start, length_at) →
+          number_at greatest bytes length_at ≡ Some (size, slot_at) → number_at greatest bytes slot_at ≡ Some (slot, name_at) →
           (t : Text) → text_at bytes name_at ≡ t → RecordThen
       by_name start length_at size slot_at slot name_at e f g (Place name n) h = rw (e, f, g, h)
       by_name start length_at size slot_at slot name_at e f g NotText h = rw (e, f, g, h)
 
       by_slot :
-          (start length_at size slot_at : ℕ) → number_at greatest bytes at ≡ Value start length_at →
-          number_at greatest bytes length_at ≡ Value size slot_at → (n : Number) → number_at greatest bytes slot_at ≡ n → RecordThen
-      by_slot start length_at size slot_at e f (Value slot name_at) g =
+          (start length_at size slot_at : ℕ) → number_at greatest bytes at ≡ Some (start, length_at) →
+          number_at greatest bytes length_at ≡ Some (size, slot_at) → (n : Option (ℕ × ℕ)) → number_at greatest bytes slot_at ≡ n → RecordThen
+      by_slot start length_at size slot_at e f (Some (slot, name_at)) g =
           by_name start length_at size slot_at slot name_at e f g (text_at bytes name_at) refl
-      by_slot start length_at size slot_at e f NotNumber g = rw (e, f, g)
+      by_slot start length_at size slot_at e f None g = rw (e, f, g)
 
       by_length :
-          (start length_at : ℕ) → number_at greatest bytes at ≡ Value start length_at →
-          (n : Number) → number_at greatest bytes length_at ≡ n → RecordThen
-      by_length start length_at e (Value size slot_at) f =
+          (start length_at : ℕ) → number_at greatest bytes at ≡ Some (start, length_at) →
+          (n : Option (ℕ × ℕ)) → number_at greatest bytes length_at ≡ n → RecordThen
+      by_length start length_at e (Some (size, slot_at)) f =
           by_slot start length_at size slot_at e f (number_at greatest bytes slot_at) refl
-      by_length start length_at e NotNumber f = rw (e, f)
+      by_length start length_at e None f = rw (e, f)
 
-      by_start : (n : Number) → number_at greatest bytes at ≡ n → RecordThen
-      by_start (Value start length_at) e = by_length start length_at e (number_at greatest bytes length_at) refl
-      by_start NotNumber e = rw e
+      by_start : (n : Option (ℕ × ℕ)) → number_at greatest bytes at ≡ n → RecordThen
+      by_start (Some (start, length_at)) e = by_length start length_at e (number_at greatest bytes length_at) refl
+      by_start None e = rw e
 
 -- ---- one turn of each loop, and of a search over the local records
 

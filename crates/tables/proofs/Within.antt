@@ -1,5 +1,6 @@
 -- A run that starts in the bytes ends in them, whatever its layout.
 -- Assumes nothing.
+use Rattle.std.specs.Prelude.{Option, Some, None}
 use Prim.Native.Nat.{ℕ, ◌+◌, ◌≤◌}
 use native.Mathlib.Omega.{arith}
 use mathlib.Core.Bool.{Bool, true, false}
@@ -9,8 +10,6 @@ use lib.ListN.{length}
 use Rattle.basics.specs.Choice.{pick}
 use Rattle.number.specs.Number.{greatest, number_at, number_within, then_number}
 use Rattle.items.specs.Text.{text_at, then_text, text_within}
-use Rattle.number.specs.declared.Number.{Number}
-use Rattle.number.specs.declared.Number.TheVariants.{Value, NotNumber}
 use Rattle.items.specs.declared.Text.{Text}
 use Rattle.items.specs.declared.Text.TheVariants.{Place, NotText}
 use Rattle.number.proofs.Laws.{number-within}
@@ -30,15 +29,15 @@ run-within (number right following) bytes at =
     of (number_at greatest bytes at) (number-within greatest bytes at) (λ v next. run-within (following v) bytes next)
   where
     of :
-        (n : Number) → number_within greatest (length bytes) at n →
+        (n : Option (ℕ × ℕ)) → number_within greatest (length bytes) at n →
         ((v next : ℕ) → run_within (length bytes) next (run_by (following v) bytes next)) →
         run_within (length bytes) at (then_number n (Wrong at) (λ v next. pick (right v) (run_by (following v) bytes next) (Wrong at)))
-    of (Value v next) h rest = by_test (right v)
+    of (Some (v, next)) h rest = by_test (right v)
       where
         by_test : (t : Bool) → run_within (length bytes) at (pick t (run_by (following v) bytes next) (Wrong at))
         by_test true = later_within (length bytes) at next (omega arith) h.2 (run_by (following v) bytes next) (rest v next)
         by_test false = tt
-    of NotNumber h rest = tt
+    of None h rest = tt
 run-within (sized following) bytes at =
     of (text_at bytes at) (text-within bytes at) (λ size next. run-within (following size) bytes next)
   where

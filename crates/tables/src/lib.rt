@@ -8,7 +8,7 @@ ghost use Rattle.tables.specs.Member.{member_at, member_within};
 ghost use Rattle.tables.specs.LocalRecord.{record_at, record_within};
 
 use items::{Text, read_text};
-use number::{Number, case_number};
+use number::case_number;
 
 // What reading a run of items answers.
 #[derive(Clone, Copy)]
@@ -77,13 +77,13 @@ fn read_texts(bytes: &[u8], at: usize) -> Run
 pub fn read_member(bytes: &[u8], at: usize, last: usize) -> Member
     ensures { (result ≡ member_at bytes.now last at) × member_within (length bytes.now) at result }
 {
-    let Number::Value(index, kind_at) = case_number(bytes, at) else {
+    let Some((index, kind_at)) = case_number(bytes, at) else {
         return Member::Wrong(at);
     };
     if index <= last {
         return Member::Wrong(at);
     }
-    let Number::Value(kind, texts) = case_number(bytes, kind_at) else {
+    let Some((kind, texts)) = case_number(bytes, kind_at) else {
         return Member::Wrong(kind_at);
     };
     if 1 < kind {
@@ -127,13 +127,13 @@ pub fn read_members(bytes: &[u8], from: usize, count: usize) -> Run
 pub fn read_record(records: &[u8], at: usize) -> LocalRecord
     ensures { (result ≡ record_at records.now at) × record_within (length records.now) at result }
 {
-    let Number::Value(start, length_at) = case_number(records, at) else {
+    let Some((start, length_at)) = case_number(records, at) else {
         return LocalRecord::Wrong(at);
     };
-    let Number::Value(length, slot_at) = case_number(records, length_at) else {
+    let Some((length, slot_at)) = case_number(records, length_at) else {
         return LocalRecord::Wrong(length_at);
     };
-    let Number::Value(slot, name_at) = case_number(records, slot_at) else {
+    let Some((slot, name_at)) = case_number(records, slot_at) else {
         return LocalRecord::Wrong(slot_at);
     };
     let Text::Place(name, name_length) = read_text(records, name_at) else {

@@ -1,7 +1,6 @@
 // Rows on the reader of cases.
 use crate::{Told, told, told_with};
 use casefile::Case;
-use number::Number;
 use tables::LocalRecord;
 use text::put_at;
 
@@ -32,8 +31,8 @@ fn case(bytes: &[u8]) -> Told {
 // number | what | bytes | limit => the number that the bytes start with, and the place after it
 fn number(bytes: &[u8], limit: usize) -> Told {
     match number::read_number(bytes, 0, limit) {
-        Number::Value(v, next) => told(0, v, next, 0),
-        Number::NotNumber => told(1, 0, 0, 0),
+        Some((v, next)) => told(0, v, next, 0),
+        None => told(1, 0, 0, 0),
     }
 }
 

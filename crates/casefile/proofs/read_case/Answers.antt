@@ -19,15 +19,15 @@ returns-in_default c =
 pub returns-in_default-case_number : goal.returns-in_default-case_number
 unfolding case_of places_in
 returns-in_default-case_number c =
-    let flags-is = sym c.case_number.ensures.0 ∙ c.in-Value.is in
+    let flags-is = sym c.case_number.ensures.0 ∙ c.in-Some.is in
     let enum-told2-is = sym c.case_number-2.ensures.0 ∙ c.in_default-case_number.is in
     sym (rw (le-ltb _ _ c.if-bytes-gt-LONGEST.false, flags-is, enum-told2-is))
 
 pub returns-in_default-read_text : goal.returns-in_default-read_text
 unfolding case_of places_in
 returns-in_default-read_text c =
-    let flags-is = sym c.case_number.ensures.0 ∙ c.in-Value.is in
-    let fault-is = sym c.case_number-2.ensures.0 ∙ c.in-Value-case_number.is in
+    let flags-is = sym c.case_number.ensures.0 ∙ c.in-Some.is in
+    let fault-is = sym c.case_number-2.ensures.0 ∙ c.in-Some-case_number.is in
     let enum-told3-is = sym c.read_text.ensures.0 ∙ c.in_default-read_text.is in
     sym (rw (le-ltb _ _ c.if-bytes-gt-LONGEST.false, flags-is, fault-is, enum-told3-is))
 
@@ -37,8 +37,8 @@ overflow_add-signature_at c = omega (arith, rw c.in-Place.is at c.read_text.ensu
 pub returns-in_default-read_text-2 : goal.returns-in_default-read_text-2
 unfolding case_of places_in
 returns-in_default-read_text-2 c =
-    let flags-is = sym c.case_number.ensures.0 ∙ c.in-Value.is in
-    let fault-is = sym c.case_number-2.ensures.0 ∙ c.in-Value-case_number.is in
+    let flags-is = sym c.case_number.ensures.0 ∙ c.in-Some.is in
+    let fault-is = sym c.case_number-2.ensures.0 ∙ c.in-Some-case_number.is in
     let code_is = sym c.read_text.ensures.0 ∙ c.in-Place.is in
     let enum-told4-is = sym c.read_text-2.ensures.0 ∙ c.in_default-read_text-2.is in
     sym (rw (le-ltb _ _ c.if-bytes-gt-LONGEST.false, flags-is, fault-is, code_is, enum-told4-is))
@@ -49,8 +49,8 @@ overflow_add-signature c = omega (arith, rw c.in-Place-read_text.is at c.read_te
 pub returns-in-Wrong : goal.returns-in-Wrong
 unfolding case_of places_in
 returns-in-Wrong c =
-    let flags-is = sym c.case_number.ensures.0 ∙ c.in-Value.is in
-    let fault-is = sym c.case_number-2.ensures.0 ∙ c.in-Value-case_number.is in
+    let flags-is = sym c.case_number.ensures.0 ∙ c.in-Some.is in
+    let fault-is = sym c.case_number-2.ensures.0 ∙ c.in-Some-case_number.is in
     let code_is = sym c.read_text.ensures.0 ∙ c.in-Place.is in
     let signature_is = sym c.read_text-2.ensures.0 ∙ c.in-Place-read_text.is in
     let runs2-is = sym c.read_tables-runs.ensures ∙ c.in-Wrong.is in
@@ -59,8 +59,8 @@ returns-in-Wrong c =
 pub returns-then-records_end-bytes : goal.returns-then-records_end-bytes
 unfolding case_of places_in
 returns-then-records_end-bytes c =
-    let flags-is = sym c.case_number.ensures.0 ∙ c.in-Value.is in
-    let fault-is = sym c.case_number-2.ensures.0 ∙ c.in-Value-case_number.is in
+    let flags-is = sym c.case_number.ensures.0 ∙ c.in-Some.is in
+    let fault-is = sym c.case_number-2.ensures.0 ∙ c.in-Some-case_number.is in
     let code_is = sym c.read_text.ensures.0 ∙ c.in-Place.is in
     let signature_is = sym c.read_text-2.ensures.0 ∙ c.in-Place-read_text.is in
     let runs-is = sym c.read_tables-runs.ensures ∙ c.in-Read.is in
@@ -70,8 +70,8 @@ returns-then-records_end-bytes c =
 pub returns : goal.returns
 unfolding case_of places_in
 returns c =
-    let flags-is = sym c.case_number.ensures.0 ∙ c.in-Value.is in
-    let fault-is = sym c.case_number-2.ensures.0 ∙ c.in-Value-case_number.is in
+    let flags-is = sym c.case_number.ensures.0 ∙ c.in-Some.is in
+    let fault-is = sym c.case_number-2.ensures.0 ∙ c.in-Some-case_number.is in
     let code_is = sym c.read_text.ensures.0 ∙ c.in-Place.is in
     let signature_is = sym c.read_text-2.ensures.0 ∙ c.in-Place-read_text.is in
     let runs-is = sym c.read_tables-runs.ensures ∙ c.in-Read.is in

@@ -14,14 +14,14 @@ returns-in_default c =
 pub returns-in-Wrong : goal.returns-in-Wrong
 unfolding tables_at
 returns-in-Wrong c =
-    let member-count-is = sym c.case_number.ensures.0 ∙ c.in-Value.is in
+    let member-count-is = sym c.case_number.ensures.0 ∙ c.in-Some.is in
     let member-run2-is = sym c.read_members-member_run.ensures.0 ∙ c.in-Wrong.is in
     sym (rw (member-count-is, member-run2-is))
 
 pub returns-in_default-case_number : goal.returns-in_default-case_number
 unfolding tables_at
 returns-in_default-case_number c =
-    let member-count-is = sym c.case_number.ensures.0 ∙ c.in-Value.is in
+    let member-count-is = sym c.case_number.ensures.0 ∙ c.in-Some.is in
     let member-run-is = sym c.read_members-member_run.ensures.0 ∙ c.in-End.is in
     let enum-told2-is = sym c.case_number-2.ensures.0 ∙ c.in_default-case_number.is in
     sym (rw (member-count-is, member-run-is, enum-told2-is))
@@ -29,9 +29,9 @@ returns-in_default-case_number c =
 pub returns-in-Wrong-record_run : goal.returns-in-Wrong-record_run
 unfolding tables_at
 returns-in-Wrong-record_run c =
-    let member-count-is = sym c.case_number.ensures.0 ∙ c.in-Value.is in
+    let member-count-is = sym c.case_number.ensures.0 ∙ c.in-Some.is in
     let member-run-is = sym c.read_members-member_run.ensures.0 ∙ c.in-End.is in
-    let record-count-is = sym c.case_number-2.ensures.0 ∙ c.in-Value-case_number.is in
+    let record-count-is = sym c.case_number-2.ensures.0 ∙ c.in-Some-case_number.is in
     let record-run2-is = sym c.read_records-record_run.ensures.0 ∙ c.in-Wrong-record_run.is in
     sym (rw (member-count-is, member-run-is, record-count-is, record-run2-is))
 
@@ -44,8 +44,8 @@ overflow_sub-result-2 c = omega (arith, (rw c.in-End-record_run.is at c.read_rec
 pub returns : goal.returns
 unfolding tables_at
 returns c =
-    let member-count-is = sym c.case_number.ensures.0 ∙ c.in-Value.is in
+    let member-count-is = sym c.case_number.ensures.0 ∙ c.in-Some.is in
     let member-run-is = sym c.read_members-member_run.ensures.0 ∙ c.in-End.is in
-    let record-count-is = sym c.case_number-2.ensures.0 ∙ c.in-Value-case_number.is in
+    let record-count-is = sym c.case_number-2.ensures.0 ∙ c.in-Some-case_number.is in
     let record-run-is = sym c.read_records-record_run.ensures.0 ∙ c.in-End-record_run.is in
     sym (rw (member-count-is, member-run-is, record-count-is, record-run-is))

@@ -17,12 +17,12 @@ returns-in_default c =
     (sym (rw (enum-told-is)), tt)
 
 pub overflow_sub-bytes : goal.overflow_sub-bytes
-overflow_sub-bytes c = omega (arith, rw c.in-Value.is at c.case_number.ensures.1)
+overflow_sub-bytes c = omega (arith, rw c.in-Some.is at c.case_number.ensures.1)
 
 pub returns-then-length-bytes : goal.returns-then-length-bytes
 unfolding text_at
 returns-then-length-bytes c =
-    let length-is = sym c.case_number.ensures.0 ∙ c.in-Value.is in
+    let length-is = sym c.case_number.ensures.0 ∙ c.in-Some.is in
     let a = c.args in
     kept (λ (t : Text). text_within (length a.bytes.now) a.at t)
     (sym (rw (length-is, le-leb _ _ c.if-length-bytes.true))) (text-within a.bytes.now a.at)
@@ -30,5 +30,5 @@ returns-then-length-bytes c =
 pub returns : goal.returns
 unfolding text_at
 returns c =
-    let length-is = sym c.case_number.ensures.0 ∙ c.in-Value.is in
+    let length-is = sym c.case_number.ensures.0 ∙ c.in-Some.is in
     (sym (rw (length-is, lt-leb _ _ c.if-length-bytes.false)), tt)

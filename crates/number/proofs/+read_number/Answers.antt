@@ -1,5 +1,6 @@
 -- `number::read_number` meets its contract. By its first group.
 -- Assumes nothing.
+use Rattle.std.specs.Prelude.{Option, None}
 use Prim.Native.Nat.{◌+◌, ◌-◌, ◌/◌, ◌≤◌, ℕ, ◌<◌}
 use native.Mathlib.Omega.{arith}
 use mathlib.Core.List.{List}
@@ -7,15 +8,13 @@ use mathlib.Core.Path.{◌≡◌, ◌∙◌, sym}
 use lib.ListN.{length, get_or}
 use borrow.Author.Tests.{le-leb, lt-leb, eq-eqb, ne_eqb}
 use Rattle.number.specs.Number.{number_at, further}
-use Rattle.number.specs.declared.Number.{Number}
-use Rattle.number.specs.declared.Number.TheVariants.{NotNumber}
 use Rattle.number.proofs.Laws.{whole, number_past, number_small, number_more, number_one}
 use Rattle.number.proofs.+read_number.Goals as goal
 
 -- with more than one group, what the groups behind the first answer decides
 more :
     (bytes : List ℕ) (at limit : ℕ) → at < length bytes → 128 ≤ get_or bytes at 0 → 128 ≤ limit → get_or bytes at 0 < 256 →
-    (n : Number) → number_at ((limit - (get_or bytes at 0 - 128)) / 128) bytes (at + 1) ≡ n →
+    (n : Option (ℕ × ℕ)) → number_at ((limit - (get_or bytes at 0 - 128)) / 128) bytes (at + 1) ≡ n →
     number_at limit bytes at ≡ further (get_or bytes at 0 - 128) n
 more bytes at limit inside above large byte n e = number_more limit bytes at inside above byte large ∙ rw e
 
@@ -44,14 +43,15 @@ returns-then-limit-lt128 t c =
     whole a.bytes.now a.at a.limit
     (sym (number_small a.limit a.bytes.now a.at c.if-bytes-at.false c.if-group-lt128.false c.if-limit-lt128.true))
 
-pub returns-in_default : goal.returns-in_default
-returns-in_default t c =
+pub returns-in_err-high : goal.returns-in_err-high
+returns-in_err-high t c =
     let a = c.args in
     let byte = c.type_inv.bytes a.at in
     whole a.bytes.now a.at a.limit
-    (sym
+    (c.from_residual.ensures
+    ∙ sym
     (more a.bytes.now a.at a.limit c.if-bytes-at.false c.if-group-lt128.false c.if-limit-lt128.false
-    (omega (arith, byte)) NotNumber (sym c.read_number.ensures.0 ∙ c.in_default.is)))
+    (omega (arith, byte)) None (sym c.read_number.ensures.0 ∙ c.in_err-high.was)))
 
 pub returns-then-high-eq0 : goal.returns-then-high-eq0
 returns-then-high-eq0 t c =
@@ -61,17 +61,17 @@ returns-then-high-eq0 t c =
     (sym
     (more a.bytes.now a.at a.limit c.if-bytes-at.false c.if-group-lt128.false c.if-limit-lt128.false
     (omega (arith, byte)) c.read_number.result (sym c.read_number.ensures.0)
-    ∙ rw (c.in-Value.is, eq-eqb _ _ c.if-high-eq0.true)))
+    ∙ rw (c.in_ok-high.was, eq-eqb _ _ c.if-high-eq0.true)))
 
 pub overflow_mul-result : goal.overflow_mul-result
 overflow_mul-result t c =
     let byte = c.type_inv.bytes c.args.at in
-    omega (arith, rw c.in-Value.is at c.read_number.ensures.1, byte)
+    omega (arith, rw c.in_ok-high.was at c.read_number.ensures.1, byte)
 
 pub overflow_add-result-2 : goal.overflow_add-result-2
 overflow_add-result-2 t c =
     let byte = c.type_inv.bytes c.args.at in
-    omega (arith, rw c.in-Value.is at c.read_number.ensures.1, byte)
+    omega (arith, rw c.in_ok-high.was at c.read_number.ensures.1, byte)
 
 pub returns : goal.returns
 returns t c =
@@ -81,4 +81,4 @@ returns t c =
     (sym
     (more a.bytes.now a.at a.limit c.if-bytes-at.false c.if-group-lt128.false c.if-limit-lt128.false
     (omega (arith, byte)) c.read_number.result (sym c.read_number.ensures.0)
-    ∙ rw (c.in-Value.is, ne_eqb _ _ c.if-high-eq0.false)))
+    ∙ rw (c.in_ok-high.was, ne_eqb _ _ c.if-high-eq0.false)))

@@ -15,31 +15,31 @@ returns-in_default c =
 pub returns-then-index-last : goal.returns-then-index-last
 unfolding member_at
 returns-then-index-last c =
-    let index_is = sym c.case_number.ensures.0 ∙ c.in-Value.is in
+    let index_is = sym c.case_number.ensures.0 ∙ c.in-Some.is in
     (sym (rw (index_is, le-ltb _ _ c.if-index-last.true)), tt)
 
 pub returns-in_default-case_number : goal.returns-in_default-case_number
 unfolding member_at
 returns-in_default-case_number c =
-    let index_is = sym c.case_number.ensures.0 ∙ c.in-Value.is in
+    let index_is = sym c.case_number.ensures.0 ∙ c.in-Some.is in
     let enum-told2-is = sym c.case_number-2.ensures.0 ∙ c.in_default-case_number.is in
     (sym (rw (index_is, lt-ltb _ _ c.if-index-last.false, enum-told2-is)), tt)
 
 pub returns-then-kind-gt1 : goal.returns-then-kind-gt1
 unfolding member_at
 returns-then-kind-gt1 c =
-    let index_is = sym c.case_number.ensures.0 ∙ c.in-Value.is in
-    let kind-is = sym c.case_number-2.ensures.0 ∙ c.in-Value-case_number.is in
+    let index_is = sym c.case_number.ensures.0 ∙ c.in-Some.is in
+    let kind-is = sym c.case_number-2.ensures.0 ∙ c.in-Some-case_number.is in
     (sym (rw (index_is, lt-ltb _ _ c.if-index-last.false, kind-is, lt-leb _ _ c.if-kind-gt1.true)), tt)
 
 pub returns-in-End : goal.returns-in-End
 unfolding member_at
 returns-in-End c =
-    let index_is = sym c.case_number.ensures.0 ∙ c.in-Value.is in
-    let kind-is = sym c.case_number-2.ensures.0 ∙ c.in-Value-case_number.is in
+    let index_is = sym c.case_number.ensures.0 ∙ c.in-Some.is in
+    let kind-is = sym c.case_number-2.ensures.0 ∙ c.in-Some-case_number.is in
     let next_is = sym c.read_texts.ensures.0 ∙ c.in-End.is in
-    let indexes = rw c.in-Value.is at c.case_number.ensures.1 in
-    let kinds = rw c.in-Value-case_number.is at c.case_number-2.ensures.1 in
+    let indexes = rw c.in-Some.is at c.case_number.ensures.1 in
+    let kinds = rw c.in-Some-case_number.is at c.case_number-2.ensures.1 in
     let run = rw c.in-End.is at c.read_texts.ensures.1 in (
       sym
           (rw (index_is, lt-ltb _ _ c.if-index-last.false, kind-is, le-leb _ _ c.if-kind-gt1.false, next_is)),
@@ -49,7 +49,7 @@ returns-in-End c =
 pub returns-in-Wrong : goal.returns-in-Wrong
 unfolding member_at
 returns-in-Wrong c =
-    let index_is = sym c.case_number.ensures.0 ∙ c.in-Value.is in
-    let kind-is = sym c.case_number-2.ensures.0 ∙ c.in-Value-case_number.is in
+    let index_is = sym c.case_number.ensures.0 ∙ c.in-Some.is in
+    let kind-is = sym c.case_number-2.ensures.0 ∙ c.in-Some-case_number.is in
     let wrong-is = sym c.read_texts.ensures.0 ∙ c.in-Wrong.is in
     (sym (rw (index_is, lt-ltb _ _ c.if-index-last.false, kind-is, le-leb _ _ c.if-kind-gt1.false, wrong-is)), tt)

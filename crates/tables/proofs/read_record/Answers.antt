@@ -14,24 +14,24 @@ returns-in_default c =
 pub returns-in_default-case_number : goal.returns-in_default-case_number
 unfolding record_at
 returns-in_default-case_number c =
-    let start_is = sym c.case_number.ensures.0 ∙ c.in-Value.is in
+    let start_is = sym c.case_number.ensures.0 ∙ c.in-Some.is in
     let enum-told2-is = sym c.case_number-2.ensures.0 ∙ c.in_default-case_number.is in
     (sym (rw (start_is, enum-told2-is)), tt)
 
 pub returns-in_default-case_number-2 : goal.returns-in_default-case_number-2
 unfolding record_at
 returns-in_default-case_number-2 c =
-    let start_is = sym c.case_number.ensures.0 ∙ c.in-Value.is in
-    let length-is = sym c.case_number-2.ensures.0 ∙ c.in-Value-case_number.is in
+    let start_is = sym c.case_number.ensures.0 ∙ c.in-Some.is in
+    let length-is = sym c.case_number-2.ensures.0 ∙ c.in-Some-case_number.is in
     let enum-told3-is = sym c.case_number-3.ensures.0 ∙ c.in_default-case_number-2.is in
     (sym (rw (start_is, length-is, enum-told3-is)), tt)
 
 pub returns-in_default-read_text : goal.returns-in_default-read_text
 unfolding record_at
 returns-in_default-read_text c =
-    let start_is = sym c.case_number.ensures.0 ∙ c.in-Value.is in
-    let length-is = sym c.case_number-2.ensures.0 ∙ c.in-Value-case_number.is in
-    let slot_is = sym c.case_number-3.ensures.0 ∙ c.in-Value-case_number-2.is in
+    let start_is = sym c.case_number.ensures.0 ∙ c.in-Some.is in
+    let length-is = sym c.case_number-2.ensures.0 ∙ c.in-Some-case_number.is in
+    let slot_is = sym c.case_number-3.ensures.0 ∙ c.in-Some-case_number-2.is in
     let enum-told4-is = sym c.read_text.ensures.0 ∙ c.in_default-read_text.is in
     (sym (rw (start_is, length-is, slot_is, enum-told4-is)), tt)
 
@@ -41,13 +41,13 @@ overflow_add-result c = omega (arith, rw c.in-Place.is at c.read_text.ensures.1)
 pub returns : goal.returns
 unfolding record_at
 returns c =
-    let start_is = sym c.case_number.ensures.0 ∙ c.in-Value.is in
-    let length-is = sym c.case_number-2.ensures.0 ∙ c.in-Value-case_number.is in
-    let slot_is = sym c.case_number-3.ensures.0 ∙ c.in-Value-case_number-2.is in
+    let start_is = sym c.case_number.ensures.0 ∙ c.in-Some.is in
+    let length-is = sym c.case_number-2.ensures.0 ∙ c.in-Some-case_number.is in
+    let slot_is = sym c.case_number-3.ensures.0 ∙ c.in-Some-case_number-2.is in
     let name_is = sym c.read_text.ensures.0 ∙ c.in-Place.is in
-    let starts = rw c.in-Value.is at c.case_number.ensures.1 in
-    let lengths = rw c.in-Value-case_number.is at c.case_number-2.ensures.1 in
-    let slots = rw c.in-Value-case_number-2.is at c.case_number-3.ensures.1 in
+    let starts = rw c.in-Some.is at c.case_number.ensures.1 in
+    let lengths = rw c.in-Some-case_number.is at c.case_number-2.ensures.1 in
+    let slots = rw c.in-Some-case_number-2.is at c.case_number-3.ensures.1 in
     let names = rw c.in-Place.is at c.read_text.ensures.1 in (
       sym (rw (start_is, length-is, slot_is, name_is)),
       (starts.0, lengths.0, slots.0, names.0, omega (arith, starts.1, lengths.1, slots.1, names.1), refl, names.2),
