@@ -18,6 +18,9 @@ use reads::read_u16;
 // Nearly every member has room in so many bytes.
 const USUAL: usize = 4096;
 
+// Every member has: its texts have at most 65,535 bytes each.
+const LONGEST: usize = 196627;
+
 // The pool number that the instruction at an index cites, if it cites one: the two bytes behind its opcode.
 pub fn cited_index(code: &[u8], fault: usize) -> usize
     ensures { (result ≡ u16_at code.now (fault + 1)) × (result < 65536) }
@@ -55,20 +58,19 @@ fn decode_in(
     decode_fault(code, members, run_count(size), fault)
 }
 
-// In a room that nearly every member fits.
-fn decode_usual(file: &[u8], table: &[usize], index: usize, code: &[u8], fault: usize) -> Fault
-    requires { length (members_bytes (member_by file.now (entry_by file.now table.now) index)) ≤ 4096 }
+// In a room of so many bytes, which the member fits.
+fn decode_within<const N: usize>(
+    file: &[u8],
+    table: &[usize],
+    index: usize,
+    code: &[u8],
+    fault: usize,
+) -> Fault
+    requires fits { length (members_bytes (member_by file.now (entry_by file.now table.now) index)) ≤ N }
+    requires n_in_bounds { N ≤ LONGEST }
     ensures { result ≡ decoded_by (member_by file.now (entry_by file.now table.now) index) code.now fault }
 {
-    let mut room = [0u8; 4096];
-    decode_in(&mut room, file, table, index, code, fault)
-}
-
-// In a room that every member fits: its texts have at most 65,535 bytes each.
-fn decode_longest(file: &[u8], table: &[usize], index: usize, code: &[u8], fault: usize) -> Fault
-    ensures { result ≡ decoded_by (member_by file.now (entry_by file.now table.now) index) code.now fault }
-{
-    let mut room = [0u8; 196627];
+    let mut room = [0u8; N];
     decode_in(&mut room, file, table, index, code, fault)
 }
 
@@ -79,7 +81,7 @@ pub fn decode_cited(file: &[u8], table: &[usize], code: &[u8], fault: usize) -> 
     let index = cited_index(code, fault);
     let mut nothing = [0u8; 0];
     if put_cited_at(&mut nothing, 0, file, table, index) <= USUAL {
-        return decode_usual(file, table, index, code, fault);
+        return decode_within::<USUAL>(file, table, index, code, fault);
     }
-    decode_longest(file, table, index, code, fault)
+    decode_within::<LONGEST>(file, table, index, code, fault)
 }
