@@ -1,5 +1,6 @@
 -- How long the names of types are, and the names of a descriptor's parameters together.
 -- Assumes nothing.
+use Rattle.std.specs.Prelude.{Option, Some, None}
 use Prim.Native.Nat.{ℕ, zero, suc, ◌+◌, ◌*◌, ◌-◌, ◌≤◌}
 use native.Mathlib.Nat.{suc-mul}
 use native.Mathlib.Omega.{arith}
@@ -13,10 +14,6 @@ use Rattle.basics.proofs.Choice.{chosen}
 use Rattle.fieldtype.specs.Search.{first_from}
 use Rattle.fieldtype.specs.Types.{field_type_at, taken_inside, types_step, list_over, types_from, types_at, types_of}
 use Rattle.fieldtype.specs.declared.FieldType.{FieldType}
-use Rattle.fieldtype.specs.declared.Found.{Found}
-use Rattle.fieldtype.specs.declared.Found.TheVariants.{At, Absent}
-use Rattle.fieldtype.specs.declared.Taken.{Taken}
-use Rattle.fieldtype.specs.declared.Taken.TheVariants.{Field, Unreadable}
 use Rattle.fieldtype.proofs.Bounds.{taken-inside}
 use Rattle.classname.specs.ClassName.{dotted, starts_with, class_name}
 use Rattle.names.specs.Names.{base_names, name_at, base_name, element_name, bracket_pairs, type_name, type_names, commaed, joined, parameter_names}
@@ -41,9 +38,9 @@ base_within : (letter : ℕ) → Within 7 (base_name letter)
 unfolding base_name base_names
 base_within letter = of (first_from letter (ascii "BCDFIJSZ") 0)
   where
-    of : (found : Found) → Within 7 (name_at found)
-    of (At k) = entry_within 7 base_names [] tt (none_within 7) k
-    of Absent = none_within 7
+    of : (found : Option ℕ) → Within 7 (name_at found)
+    of (Some k) = entry_within 7 base_names [] tt (none_within 7) k
+    of None = none_within 7
 
 element_within : (text : List ℕ) (t : FieldType) → Within (length text + 7) (element_name text t)
 unfolding element_name
@@ -70,11 +67,11 @@ list_within text (suc k) at =
     of (list_over text at) (field_type_at text at) (taken-inside text at) (λ next. list_within text k next)
   where
     of :
-        (b : Bool) (taken : Taken) → taken_inside taken text at →
+        (b : Bool) (taken : Option FieldType) → taken_inside taken text at →
         ((next : ℕ) → Within (k * widest text) (commaed (type_names text (types_from text k next)))) →
         Within (suc k * widest text) (commaed (type_names text (types_step b taken at (λ next. types_from text k next))))
     of true taken inside rest = none_within (suc k * widest text)
-    of false (Field t) inside rest =
+    of false (Some t) inside rest =
         let behind = commaed (type_names text (types_from text k t.next)) in
         let one : length (type_name text t ++ behind) ≤ k * widest text + 3 * length text + 7 =
         omega (
@@ -86,7 +83,7 @@ list_within text (suc k) at =
           rest t.next,
         ) in
         omega (arith, length-append (ascii ", ") (type_name text t ++ behind), one, suc-mul k (widest text))
-    of false Unreadable inside rest = none_within (suc k * widest text)
+    of false None inside rest = none_within (suc k * widest text)
 
 joined_within : (names : List (List ℕ)) (n : ℕ) → Within n (commaed names) → Within n (joined names)
 unfolding commaed joined

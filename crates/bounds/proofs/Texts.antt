@@ -1,5 +1,6 @@
 -- Texts that are taken from a run of bytes are no longer than the run; the names of locals that their numbers make up are short.
 -- Assumes nothing.
+use Rattle.std.specs.Prelude.{Option, Some, None}
 use Prim.Native.Nat.{ℕ, zero, suc, ◌+◌, ◌-◌, ◌≤◌}
 use native.Mathlib.Omega.{arith}
 use mathlib.Core.Bool.{Bool, true}
@@ -18,8 +19,6 @@ use Rattle.tables.specs.Member.{member_at, then_member}
 use Rattle.lookup.specs.Lookup.{texts_of, member_found}
 use Rattle.tables.specs.declared.Member.{Member}
 use Rattle.tables.specs.declared.Member.TheVariants.{Read, Wrong}
-use Rattle.fieldtype.specs.declared.Found.{Found}
-use Rattle.fieldtype.specs.declared.Found.TheVariants.{At, Absent}
 use Rattle.search.specs.Search.{first_match}
 use Rattle.locals.specs.Name.{signature_parameter, numbered_name, parameter_name, unnamed, name_by, local_name}
 use Rattle.search.specs.declared.NamePlace.{NamePlace}
@@ -90,9 +89,9 @@ unfolding numbered_name
 numbered_within word n short =
     omega (arith, short, length-append (word ++ decimal n) (ascii ">"), length-append word (decimal n), decimal_short n)
 
-parameter_within : (found : Found) (slot : ℕ) → Within 40 (parameter_name found slot)
-parameter_within (At k) slot = numbered_within (ascii "<parameter") k (lit≤ tt)
-parameter_within Absent slot = numbered_within (ascii "<local") slot (lit≤ tt)
+parameter_within : (found : Option ℕ) (slot : ℕ) → Within 40 (parameter_name found slot)
+parameter_within (Some k) slot = numbered_within (ascii "<parameter") k (lit≤ tt)
+parameter_within None slot = numbered_within (ascii "<local") slot (lit≤ tt)
 
 pub local_within :
     (records : List ℕ) (count : ℕ) (signature : List ℕ) (instance : Bool) (slot load : ℕ) →

@@ -1,5 +1,6 @@
 -- Types one after the other: what stands at an index decides how the list goes on.
 -- Assumes nothing.
+use Rattle.std.specs.Prelude.{Option, Some, None}
 use Prim.Native.Nat.{ℕ, zero, suc, ◌+◌, ◌≤◌, ◌<◌}
 use native.Mathlib.Omega.{arith}
 use mathlib.Core.Path.{◌≡◌, refl, ◌∙◌, ap}
@@ -12,8 +13,6 @@ use Rattle.basics.specs.Bytes.{byte_at}
 use Rattle.basics.specs.Choice.{pick, both}
 use Rattle.fieldtype.specs.Types.{field_type_at, taken_inside, is_wide, type_slots, over, unread, one, types_step, list_over, types_from, types_at}
 use Rattle.fieldtype.specs.declared.FieldType.{FieldType}
-use Rattle.fieldtype.specs.declared.Taken.{Taken}
-use Rattle.fieldtype.specs.declared.Taken.TheVariants.{Field, Unreadable}
 use Rattle.fieldtype.proofs.Bounds.{taken-inside}
 
 -- more turns than there are bytes change nothing
@@ -27,12 +26,12 @@ enough text (suc k) (suc j) at p q =
     same_step (list_over text at) (field_type_at text at) (taken-inside text at) (λ n onward. enough text k j n (omega arith) (omega arith))
   where
     same_step :
-        (t : Bool) (taken : Taken) → taken_inside taken text at →
+        (t : Bool) (taken : Option FieldType) → taken_inside taken text at →
         ((n : ℕ) → at < n → types_from text k n ≡ types_from text j n) →
         types_step t taken at (λ n. types_from text k n) ≡ types_step t taken at (λ n. types_from text j n)
     same_step true taken inside rest = refl
-    same_step false (Field t) inside rest = ap (one t) (rest t.next (omega (arith, inside.onward)))
-    same_step false Unreadable inside rest = refl
+    same_step false (Some t) inside rest = ap (one t) (rest t.next (omega (arith, inside.onward)))
+    same_step false None inside rest = refl
 
 module _ (text : List ℕ) (at : ℕ) where
   -- the list without its count of turns
@@ -49,10 +48,10 @@ module _ (text : List ℕ) (at : ℕ) where
   list_closed inside e = list_is ∙ rw (lt-leb (length text) at inside, eq-eqb (byte_at text at) 41 e)
 
   module _ (inside : at < length text) (going : byte_at text at ≡ 41 → ⊥) where
-    pub list_unread : field_type_at text at ≡ Unreadable → types_at text at ≡ unread at
+    pub list_unread : field_type_at text at ≡ None → types_at text at ≡ unread at
     list_unread e = list_is ∙ rw (lt-leb (length text) at inside, ne_eqb (byte_at text at) 41 going, e)
 
-    pub list_one : (t : FieldType) → field_type_at text at ≡ Field t → types_at text at ≡ one t (types_at text t.next)
+    pub list_one : (t : FieldType) → field_type_at text at ≡ Some t → types_at text at ≡ one t (types_at text t.next)
     list_one t e = list_is ∙ rw (lt-leb (length text) at inside, ne_eqb (byte_at text at) 41 going, e)
 
 pub one_or_two : (t : FieldType) → (1 ≤ type_slots t) × (type_slots t ≤ 2)

@@ -1,5 +1,6 @@
 -- One turn of each loop over types: what the reader answers from here is what it answers from the start.
 -- Assumes nothing.
+use Rattle.std.specs.Prelude.{Some, None}
 use Prim.Native.Nat.{ℕ, ◌+◌}
 use native.Mathlib.Omega.{arith}
 use mathlib.Core.Path.{◌≡◌, refl, ap, ap₂}
@@ -7,7 +8,6 @@ use borrow.Author.Tests.{eq-eqb, ne_eqb}
 use Rattle.fieldtype.specs.Types.{type_slots, Types, over, unread, one}
 use Rattle.descriptor.specs.Readers.{slots_of, judged, starting_at}
 use Rattle.fieldtype.specs.declared.FieldType.{FieldType}
-use Rattle.fieldtype.specs.declared.Found.TheVariants.{At, Absent}
 use Rattle.descriptor.specs.declared.Params.{Params}
 use Rattle.descriptor.specs.declared.Params.TheVariants.{Read, Unreadable}
 
@@ -35,7 +35,7 @@ module _ (here : Types) (slots : ℕ) where
 
 -- the parameter that starts at a slot
 module _ (here : Types) (first slot k : ℕ) where
-  pub found_now : (t : FieldType) (rest : Types) → here ≡ one t rest → first ≡ slot → At k ≡ starting_at here first slot k
+  pub found_now : (t : FieldType) (rest : Types) → here ≡ one t rest → first ≡ slot → Some k ≡ starting_at here first slot k
   unfolding starting_at
   found_now t rest e same = rw (e, eq-eqb first slot same)
 
@@ -45,10 +45,10 @@ module _ (here : Types) (first slot k : ℕ) where
   unfolding starting_at
   found_on t rest more e m other = rw (e, ne_eqb first slot other, m)
 
-  pub none_over : (at : ℕ) → here ≡ over at → Absent ≡ starting_at here first slot k
+  pub none_over : (at : ℕ) → here ≡ over at → None ≡ starting_at here first slot k
   unfolding starting_at
   none_over at e = rw e
 
-  pub none_unread : (at : ℕ) → here ≡ unread at → Absent ≡ starting_at here first slot k
+  pub none_unread : (at : ℕ) → here ≡ unread at → None ≡ starting_at here first slot k
   unfolding starting_at
   none_unread at e = rw e

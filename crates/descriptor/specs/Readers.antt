@@ -1,11 +1,9 @@
 -- What the lenient readers answer of a whole descriptor (document 01, "Descriptors" and "Action and cause"; document 02, request 2).
 -- Assumes nothing.
-use Rattle.std.specs.Prelude.{ℕ, ◌+◌, Bool, List, eqb, leb, length}
+use Rattle.std.specs.Prelude.{ℕ, ◌+◌, Bool, List, eqb, leb, length, Option, Some, None}
 use Rattle.basics.specs.Bytes.{byte_at}
 use Rattle.basics.specs.Choice.{pick}
 use Rattle.fieldtype.specs.Types.{is_wide, type_slots, Types, over, unread, one, types_of}
-use Rattle.fieldtype.specs.declared.Found.{Found}
-use Rattle.fieldtype.specs.declared.Found.TheVariants.{At, Absent}
 use Rattle.descriptor.specs.declared.Params.{Params}
 use Rattle.descriptor.specs.declared.Params.TheVariants.{Read, Unreadable as UnreadableParams}
 use Rattle.descriptor.specs.declared.Slots.{Slots}
@@ -31,25 +29,25 @@ parameters text = pick (eqb (byte_at text 0) 40) (judged (types_of text) (slots_
 -- ---- the parameters of a signature: "skipping one byte, until one can't be read"
 
 -- the number of the first parameter that starts at a slot
-unfoldable pub starting_at : Types → ℕ → ℕ → ℕ → Found
-starting_at (over end) first slot k = Absent
-starting_at (unread at) first slot k = Absent
-starting_at (one t rest) first slot k = pick (eqb first slot) (At k) (starting_at rest (first + type_slots t) slot (k + 1))
+unfoldable pub starting_at : Types → ℕ → ℕ → ℕ → Option ℕ
+starting_at (over end) first slot k = None
+starting_at (unread at) first slot k = None
+starting_at (one t rest) first slot k = pick (eqb first slot) (Some k) (starting_at rest (first + type_slots t) slot (k + 1))
 
 -- "slots count from 0, or from 1 when not static, .. and K from 1"
-unfoldable pub parameter_at : List ℕ → Bool → ℕ → Found
+unfoldable pub parameter_at : List ℕ → Bool → ℕ → Option ℕ
 parameter_at text instance slot = starting_at (types_of text) (pick instance 1 0) slot 1
 
 -- ---- the return
 
 -- the index where parameters end that were read
-abbrev pub end_of : Params → Found
-end_of (Read slots end) = At end
-end_of UnreadableParams = Absent
+abbrev pub end_of : Params → Option ℕ
+end_of (Read slots end) = Some end
+end_of UnreadableParams = None
 
 -- "Read the parameters and take what follows the parenthesis that ends them." Without one they end with the text, where nothing
 -- follows.
-unfoldable pub closing : List ℕ → Found
+unfoldable pub closing : List ℕ → Option ℕ
 closing text = end_of (parameters text)
 
 -- "V 0, J or D 2, any other byte 1"
@@ -57,10 +55,10 @@ abbrev pub byte_slots : ℕ → ℕ
 byte_slots x = pick (eqb x 86) 0 (pick (is_wide x) 2 1)
 
 -- "no byte, or no `)`, fails"
-unfoldable pub slots_behind : List ℕ → Found → Slots
-slots_behind text (At close) =
+unfoldable pub slots_behind : List ℕ → Option ℕ → Slots
+slots_behind text (Some close) =
     pick (leb (length text) (close + 1)) UnreadableSlots (SlotsOf (byte_slots (byte_at text (close + 1))))
-slots_behind text Absent = UnreadableSlots
+slots_behind text None = UnreadableSlots
 
 unfoldable pub return_slots : List ℕ → Slots
 return_slots text = slots_behind text (closing text)

@@ -1,12 +1,11 @@
 // Descriptors, read leniently (document 01, "Descriptors"; document 02, request 2).
 #![tactic(auto)]
 
-ghost use Rattle.std.specs.Prelude.{◌≡◌};
+ghost use Rattle.std.specs.Prelude.{◌≡◌, Some};
 ghost use Rattle.basics.specs.Choice.{pick};
-ghost use Rattle.fieldtype.specs.declared.Found.TheVariants.{At};
 ghost use Rattle.descriptor.specs.Readers.{parameters, parameter_at, slots_behind, return_slots, field_slots};
 
-use fieldtype::{Found, Taken, is_wide, parse_field_type, type_slots};
+use fieldtype::{is_wide, parse_field_type, type_slots};
 
 // The parameters of a call: their slots, and where their list ends.
 #[derive(Clone, Copy)]
@@ -37,7 +36,7 @@ pub fn parse_method_params(descriptor: &[u8]) -> Params
         if descriptor[at] == b')' {
             return Params::Read { slots, end: at };
         }
-        let Taken::Field(t) = parse_field_type(descriptor, at) else {
+        let Some(t) = parse_field_type(descriptor, at) else {
             return Params::Unreadable;
         };
         slots += type_slots(t);
@@ -53,7 +52,7 @@ fn first_slot(instance: bool) -> usize
 }
 
 // The number of the parameter of a signature that starts at a slot.
-pub fn parameter_at(descriptor: &[u8], instance: bool, slot: usize) -> Found
+pub fn parameter_at(descriptor: &[u8], instance: bool, slot: usize) -> Option<usize>
     ensures { result ≡ parameter_at descriptor.now instance slot }
 {
     let mut at: usize = 1;
@@ -61,24 +60,22 @@ pub fn parameter_at(descriptor: &[u8], instance: bool, slot: usize) -> Found
     let mut k: usize = 1;
     while at < descriptor.len() {
         if descriptor[at] == b')' {
-            return Found::Absent;
+            return None;
         }
-        let Taken::Field(t) = parse_field_type(descriptor, at) else {
-            return Found::Absent;
-        };
+        let t = parse_field_type(descriptor, at)?;
         if first == slot {
-            return Found::At(k);
+            return Some(k);
         }
         first += type_slots(t);
         k += 1;
         at = t.next;
     }
-    Found::Absent
+    None
 }
 
 // The slots of what a method returns whose parameters end at an index. That may be any number, so it is tested before one is added.
 pub fn slots_behind(descriptor: &[u8], end: usize) -> Slots
-    ensures { result ≡ slots_behind descriptor.now (At end) }
+    ensures { result ≡ slots_behind descriptor.now (Some end) }
 {
     if descriptor.len() <= end {
         return Slots::Unreadable;

@@ -1,5 +1,6 @@
 -- The lenient readers on a text that is written from a tree.
 -- Assumes nothing.
+use Rattle.std.specs.Prelude.{Some}
 use Prim.Native.Nat.{ℕ, zero, suc, ◌+◌, ◌-◌, ◌<◌}
 use native.Mathlib.Numerals.{add-one}
 use native.Mathlib.Omega.{arith}
@@ -17,10 +18,8 @@ use Rattle.fieldtype.specs.Search.{first_in, first_from}
 use Rattle.fieldtype.specs.Types.{brackets, base_type, type_behind, field_type_at, is_wide, type_slots, Types, over, one, types_at, types_of}
 use Rattle.descriptor.specs.Readers.{slots_of, judged, parameters, byte_slots, slots_behind, return_slots, field_slots}
 use Rattle.fieldtype.specs.declared.FieldType.{FieldType}
-use Rattle.fieldtype.specs.declared.Found.TheVariants.{At}
 use Rattle.descriptor.specs.declared.Params.TheVariants.{Read}
 use Rattle.descriptor.specs.declared.Slots.TheVariants.{Slots as SlotsOf}
-use Rattle.fieldtype.specs.declared.Taken.TheVariants.{Field}
 use Rattle.jvms.specs.Descriptor.{BaseType, byte, char, double, float, int, long, short, boolean, letter}
 use Rattle.jvms.specs.Descriptor.{base, class, array, render, render_all, render_return, render_method, dimensions, NoSemicolon, Named, AllWellFormed}
 use Rattle.jvms.specs.Descriptor.{ReturnType, void, typed, MethodType, WellFormedMethod, slots, slots_all}
@@ -89,12 +88,12 @@ brackets_are zero rest = omega arith
 brackets_are (suc d) rest = omega (arith, brackets_are d rest)
 
 -- the semicolon behind a name
-semicolon : (name rest : List ℕ) (at : ℕ) → NoSemicolon name → first_in 59 (name ++ (59 ∷ rest)) at ≡ At (at + length name)
+semicolon : (name rest : List ℕ) (at : ℕ) → NoSemicolon name → first_in 59 (name ++ (59 ∷ rest)) at ≡ Some (at + length name)
 unfolding first_in
-semicolon [] rest at free = ap At (omega arith)
+semicolon [] rest at free = ap Some (omega arith)
 semicolon (x ∷ name) rest at free =
     let on : at + 1 + length name ≡ at + suc (length name) = omega arith in
-    rw (ne_eqb x 59 free.0) (semicolon name rest (at + 1) free.1 ∙ ap At on)
+    rw (ne_eqb x 59 free.0) (semicolon name rest (at + 1) free.1 ∙ ap Some on)
 
 -- ---- one type
 
@@ -111,7 +110,7 @@ shape_at t at =
 
 letter_is_base :
     (b : BaseType) (d k : ℕ) →
-    base_type (letter b) d k (first_from (letter b) (ascii "BCDFIJSZ") 0) ≡ Field (record { letter = letter b; dims = d; from = k; to = k; next = k })
+    base_type (letter b) d k (first_from (letter b) (ascii "BCDFIJSZ") 0) ≡ Some (record { letter = letter b; dims = d; from = k; to = k; next = k })
 unfolding first_from first_in
 letter_is_base byte d k = refl
 letter_is_base char d k = refl
@@ -140,7 +139,7 @@ behind_shape t d at =
 -- the semicolon that ends a class name
 name_ended :
     (p name rest : List ℕ) → NoSemicolon name →
-    first_from 59 (p ++ (76 ∷ ((name ++ (59 ∷ [])) ++ rest))) (length p + 1) ≡ At (length p + 1 + length name)
+    first_from 59 (p ++ (76 ∷ ((name ++ (59 ∷ [])) ++ rest))) (length p + 1) ≡ Some (length p + 1 + length name)
 unfolding first_from
 name_ended p name rest free =
     ap (λ (l : List ℕ). first_in 59 l (length p + 1))
@@ -151,14 +150,14 @@ name_ended p name rest free =
 
 element_read :
     (t : Tree) (p rest : List ℕ) (d : ℕ) → Named t →
-    type_behind (p ++ (element t ++ rest)) d (length p) ≡ Field (behind_shape t d (length p))
+    type_behind (p ++ (element t ++ rest)) d (length p) ≡ Some (behind_shape t d (length p))
 unfolding type_behind
 element_read (base b) p rest d named =
     let inside = behind_inside p (letter b) rest in
     let same : length p + 1 ≡ length p + 1 + 0 = omega arith in
     rw (lt-leb (length (p ++ (letter b ∷ rest))) (length p) inside, behind_byte p (letter b) rest, letter_is_no_class b)
     (letter_is_base b d (length p + 1)
-    ∙ ap (λ (n : ℕ). Field (record { letter = letter b; dims = d; from = length p + 1; to = n; next = length p + 1 })) same)
+    ∙ ap (λ (n : ℕ). Some (record { letter = letter b; dims = d; from = length p + 1; to = n; next = length p + 1 })) same)
 element_read (class name) p rest d named =
     let behind = (name ++ (59 ∷ [])) ++ rest in
     let inside = behind_inside p 76 behind in
@@ -179,7 +178,7 @@ module _ (t : Tree) (p rest : List ℕ) where
       ∙ ap (λ (l : List ℕ). p ++ l) (append_assoc (opened (dimensions t)) (element t) rest)
       ∙ sym (append_assoc p (opened (dimensions t)) (element t ++ rest))
 
-  type_read : Named t → field_type_at (p ++ (render t ++ rest)) (length p) ≡ Field (shape_at t (length p))
+  type_read : Named t → field_type_at (p ++ (render t ++ rest)) (length p) ≡ Some (shape_at t (length p))
   unfolding field_type_at
   type_read named =
       let q = p ++ opened (dimensions t) in
@@ -317,7 +316,7 @@ return_first (typed (base boolean)) = (90, [], refl, refl)
 return_first (typed (class name)) = (76, name ++ (59 ∷ []), refl, refl)
 return_first (typed (array t)) = (91, render t, refl, refl)
 
-behind_closing : (q l : List ℕ) (x : ℕ) → slots_behind (q ++ (41 ∷ (x ∷ l))) (At (length q)) ≡ SlotsOf (byte_slots x)
+behind_closing : (q l : List ℕ) (x : ℕ) → slots_behind (q ++ (41 ∷ (x ∷ l))) (Some (length q)) ≡ SlotsOf (byte_slots x)
 unfolding slots_behind
 behind_closing q l x =
     let same : q ++ (41 ∷ (x ∷ l)) ≡ (q ++ (41 ∷ [])) ++ (x ∷ l) = sym (append_assoc q (41 ∷ []) (x ∷ l)) in
@@ -337,7 +336,7 @@ slots_agree m well =
     listed_read types (slots_of (types_of (render_method m)))
     ∙ ap (λ (n : ℕ). Read n (closing_at m)) (listed_slots types ∙ trees_slots m.parameters)
 
-behind_parameters : (m : MethodType) → slots_behind (render_method m) (At (closing_at m)) ≡ SlotsOf (tree_return_slots m.result)
+behind_parameters : (m : MethodType) → slots_behind (render_method m) (Some (closing_at m)) ≡ SlotsOf (tree_return_slots m.result)
 unfolding render_method
 behind_parameters m =
     let q : List ℕ = 40 ∷ render_all m.parameters in

@@ -1,5 +1,6 @@
 -- Where a list of parameters ends, and what that says of the return.
 -- Assumes nothing.
+use Rattle.std.specs.Prelude.{Option, Some, None}
 use Prim.Native.Nat.{ℕ, zero, suc, ◌+◌, ◌≤◌, ◌<◌}
 use native.Mathlib.Nat.{eq-or-lt_of_le}
 use native.Mathlib.Omega.{arith}
@@ -18,11 +19,9 @@ use Rattle.descriptor.specs.declared.Slots.TheVariants.{Slots as SlotsOf, Unread
 use Rattle.descriptor.proofs.Return.{behind_end, behind_none}
 use Rattle.fieldtype.specs.Search.{first_in, first_from}
 use Rattle.fieldtype.specs.Types.{field_type_at, taken_inside, types_step, list_over, types_from, types_at, types_of}
-use Rattle.fieldtype.specs.declared.Found.TheVariants.{At}
-use Rattle.fieldtype.specs.declared.Taken.{Taken}
-use Rattle.fieldtype.specs.declared.Taken.TheVariants.{Field, Unreadable as UnreadableType}
 use Rattle.fieldtype.proofs.Bounds.{taken-inside}
 use Rattle.fieldtype.proofs.Steps.{found_here, found_nowhere}
+use Rattle.fieldtype.specs.declared.FieldType.{FieldType}
 use Rattle.jvms.specs.Descriptor.{int, base, class, void, typed, MethodType, render, render_all, render_return, render_method, WellFormed, WellFormedMethod}
 use Rattle.descriptors.specs.Place.{first_place, first_return, last_place, Returns, occurs, NoneBefore, ReturnPlace}
 use Rattle.descriptors.proofs.Agree.{lenient_agrees}
@@ -53,13 +52,13 @@ module _ (text : List ℕ) where
       (λ next onward within. from_ended k next n slots end within (omega arith))
     where
       by_step :
-          (b : Bool) → list_over text at ≡ b → (t : Taken) → taken_inside t text at →
+          (b : Bool) → list_over text at ≡ b → (t : Option FieldType) → taken_inside t text at →
           judged (types_step b t at (λ next. types_from text k next)) n ≡ Read slots end →
           ((next : ℕ) → at < next → next ≤ length text → judged (types_from text k next) n ≡ Read slots end → Ended text end) →
           Ended text end
       by_step true o t here q later = let same : at ≡ end = cc in subst (Ended text) same (over_ended at inside o)
-      by_step false o (Field t) here q later = later t.next (omega (arith, here.onward)) here.within q
-      by_step false o UnreadableType here q later = let z : ◌≡◌ {A = ℕ} 0 1 = cc in absurd (omega arith)
+      by_step false o (Some t) here q later = later t.next (omega (arith, here.onward)) here.within q
+      by_step false o None here q later = let z : ◌≡◌ {A = ℕ} 0 1 = cc in absurd (omega arith)
 
   list_ended : (slots end : ℕ) → parameters text ≡ Read slots end → Ended text end
   unfolding parameters types_of types_at
@@ -86,7 +85,7 @@ search_from (x ∷ xs) (suc end) from none = by_test (eqb x 41) none (search_fro
     by_test :
         (b : Bool) → pick b 1 0 + occurs 41 (take end xs) ≡ 0 →
         (occurs 41 (take end xs) ≡ 0 → first_in 41 xs (from + 1) ≡ first_in 41 (drop end xs) (from + 1 + end)) →
-        pick b (At from) (first_in 41 xs (from + 1)) ≡ first_in 41 (drop end xs) (from + suc end)
+        pick b (Some from) (first_in 41 xs (from + 1)) ≡ first_in 41 (drop end xs) (from + suc end)
     by_test true z further = absurd (omega arith)
     by_test false z further = further (omega arith) ∙ ap (first_in 41 (drop end xs)) (omega arith)
 
@@ -95,7 +94,7 @@ unfolding first_place first_from
 first_is text end none = search_from text end 0 none ∙ ap (first_in 41 (drop end text)) (omega arith)
 
 -- none stands before the first
-first_alone : (text : List ℕ) (end from : ℕ) → first_in 41 text from ≡ At (from + end) → occurs 41 (take end text) ≡ 0
+first_alone : (text : List ℕ) (end from : ℕ) → first_in 41 text from ≡ Some (from + end) → occurs 41 (take end text) ≡ 0
 unfolding first_in
 first_alone [] zero from e = refl
 first_alone [] (suc end) from e = refl
@@ -103,15 +102,15 @@ first_alone (x ∷ xs) zero from e = refl
 first_alone (x ∷ xs) (suc end) from e = by_test (eqb x 41) e (first_alone xs end (from + 1))
   where
     by_test :
-        (b : Bool) → pick b (At from) (first_in 41 xs (from + 1)) ≡ At (from + suc end) →
-        (first_in 41 xs (from + 1) ≡ At (from + 1 + end) → occurs 41 (take end xs) ≡ 0) →
+        (b : Bool) → pick b (Some from) (first_in 41 xs (from + 1)) ≡ Some (from + suc end) →
+        (first_in 41 xs (from + 1) ≡ Some (from + 1 + end) → occurs 41 (take end xs) ≡ 0) →
         pick b 1 0 + occurs 41 (take end xs) ≡ 0
     by_test true q further = let same : from ≡ from + suc end = cc in absurd (omega arith)
-    by_test false q further = omega (arith, further (q ∙ ap At (omega arith)))
+    by_test false q further = omega (arith, further (q ∙ ap Some (omega arith)))
 
-plain-if-first : (text : List ℕ) (end : ℕ) → first_place text ≡ At end → NoneBefore text end
+plain-if-first : (text : List ℕ) (end : ℕ) → first_place text ≡ Some end → NoneBefore text end
 unfolding first_place first_from
-plain-if-first text end e = first_alone text end 0 (e ∙ ap At (omega arith))
+plain-if-first text end e = first_alone text end 0 (e ∙ ap Some (omega arith))
 
 -- ---- what that says of the return
 
@@ -124,7 +123,7 @@ module _ (text : List ℕ) (slots end : ℕ) (read : parameters text ≡ Read sl
   unfolding slots_behind
   byte-behind below = behind_end text slots end read ∙ rw (lt-leb (length text) (end + 1) below)
 
-  same_place : first_place text ≡ At end → return_slots text ≡ first_return text
+  same_place : first_place text ≡ Some end → return_slots text ≡ first_return text
   same_place first = behind_end text slots end read ∙ ap (slots_behind text) (sym first)
 
   same-if-plain : NoneBefore text end → return_slots text ≡ first_return text

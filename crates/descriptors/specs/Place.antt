@@ -1,7 +1,7 @@
 -- Where a return stands (document 02, request 2), and where document 01 looked for it, as statements. proofs/Place.antt has a proof
 -- of each.
 -- Assumes nothing.
-use Rattle.std.specs.Prelude.{ℕ, ◌+◌, ◌≤◌, ◌<◌, ◌≡◌, List, [], ◌∷◌, eqb, length, take}
+use Rattle.std.specs.Prelude.{ℕ, ◌+◌, ◌≤◌, ◌<◌, ◌≡◌, List, [], ◌∷◌, eqb, length, take, Option, Some, None}
 use Rattle.basics.specs.Bytes.{byte_at}
 use Rattle.basics.specs.Choice.{pick}
 use Rattle.descriptor.specs.Readers.{parameters, closing, byte_slots, slots_behind, return_slots}
@@ -9,34 +9,32 @@ use Rattle.descriptor.specs.declared.Params.TheVariants.{Read, Unreadable as Unr
 use Rattle.descriptor.specs.declared.Slots.{Slots}
 use Rattle.descriptor.specs.declared.Slots.TheVariants.{Slots as SlotsOf, Unreadable as NoSlots}
 use Rattle.fieldtype.specs.Search.{first_from}
-use Rattle.fieldtype.specs.declared.Found.{Found}
-use Rattle.fieldtype.specs.declared.Found.TheVariants.{At, Absent}
 use Rattle.jvms.specs.Descriptor.{MethodType, render_method, WellFormedMethod}
 use Rattle.jvms.specs.Descriptor.{return_slots as tree_return_slots}
 
 -- ---- rules for the place
 
 -- document 01: "Return slots follow the first `)` anywhere in the text"
-unfoldable pub first_place : List ℕ → Found
+unfoldable pub first_place : List ℕ → Option ℕ
 first_place text = first_from 41 text 0
 
 abbrev pub first_return : List ℕ → Slots
 first_return text = slots_behind text (first_place text)
 
 -- the last one
-abbrev later_of : Found → Found → Found
-later_of (At later) here = At later
-later_of Absent here = here
+abbrev later_of : Option ℕ → Option ℕ → Option ℕ
+later_of (Some later) here = Some later
+later_of None here = here
 
-abbrev last_in : ℕ → List ℕ → ℕ → Found
-last_in byte [] at = Absent
-last_in byte (x ∷ xs) at = later_of (last_in byte xs (at + 1)) (pick (eqb x byte) (At at) Absent)
+abbrev last_in : ℕ → List ℕ → ℕ → Option ℕ
+last_in byte [] at = None
+last_in byte (x ∷ xs) at = later_of (last_in byte xs (at + 1)) (pick (eqb x byte) (Some at) None)
 
-abbrev pub last_place : List ℕ → Found
+abbrev pub last_place : List ℕ → Option ℕ
 last_place text = last_in 41 text 0
 
 -- what stands behind the place is the return, in every well-formed descriptor
-abbrev pub Returns : (List ℕ → Found) → Type 0
+abbrev pub Returns : (List ℕ → Option ℕ) → Type 0
 Returns place =
     (m : MethodType) → WellFormedMethod m →
     slots_behind (render_method m) (place (render_method m)) ≡ SlotsOf (tree_return_slots m.result)
@@ -71,7 +69,7 @@ pub record ReturnPlace : Type 0 where
   -- where they end at the first `)` the return is document 01's; so it is of any that were read with plain names, without a `)`, and
   -- only with such they end at the first
   pub same_at_first :
-      (text : List ℕ) (slots end : ℕ) → parameters text ≡ Read slots end → first_place text ≡ At end → return_slots text ≡ first_return text
+      (text : List ℕ) (slots end : ℕ) → parameters text ≡ Read slots end → first_place text ≡ Some end → return_slots text ≡ first_return text
   pub same_if_plain :
       (text : List ℕ) (slots end : ℕ) → parameters text ≡ Read slots end → NoneBefore text end → return_slots text ≡ first_return text
-  pub plain_if_first : (text : List ℕ) (end : ℕ) → first_place text ≡ At end → NoneBefore text end
+  pub plain_if_first : (text : List ℕ) (end : ℕ) → first_place text ≡ Some end → NoneBefore text end

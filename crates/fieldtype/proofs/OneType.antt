@@ -1,5 +1,6 @@
 -- The type at an index, once its brackets are passed.
 -- Assumes nothing.
+use Rattle.std.specs.Prelude.{Some, None}
 use Prim.Native.Nat.{ℕ, ◌+◌, ◌-◌, ◌≤◌, ◌<◌}
 use native.Mathlib.Omega.{arith}
 use mathlib.Core.Path.{◌≡◌, sym, ap₂}
@@ -10,39 +11,37 @@ use Rattle.basics.specs.Ascii.{ascii}
 use Rattle.basics.specs.Bytes.{byte_at}
 use Rattle.fieldtype.specs.Search.{first_from}
 use Rattle.fieldtype.specs.Types.{brackets, type_behind, field_type_at}
-use Rattle.fieldtype.specs.declared.Found.TheVariants.{At, Absent}
-use Rattle.fieldtype.specs.declared.Taken.TheVariants.{Field, Unreadable}
 
 module _ (text : List ℕ) (at base : ℕ) (passed : base ≡ at + brackets (drop at text)) where
   behind : field_type_at text at ≡ type_behind text (base - at) base
   unfolding field_type_at
   behind = let dims : brackets (drop at text) ≡ base - at = omega (arith, passed) in ap₂ (type_behind text) dims (sym passed)
 
-  pub nothing_behind : length text ≤ base → Unreadable ≡ field_type_at text at
+  pub nothing_behind : length text ≤ base → None ≡ field_type_at text at
   unfolding type_behind
   nothing_behind past = rw (behind, le-leb (length text) base past)
 
   pub class_unended :
-      base < length text → byte_at text base ≡ 76 → Absent ≡ first_from 59 text (base + 1) → Unreadable ≡ field_type_at text at
+      base < length text → byte_at text base ≡ 76 → None ≡ first_from 59 text (base + 1) → None ≡ field_type_at text at
   unfolding type_behind
   class_unended inside named none = rw (behind, lt-leb (length text) base inside, eq-eqb (byte_at text base) 76 named, ← none)
 
   pub class_ended :
-      (to : ℕ) → base < length text → byte_at text base ≡ 76 → At to ≡ first_from 59 text (base + 1) →
-      Field (record { letter = byte_at text base; dims = base - at; from = base + 1; to = to; next = to + 1 }) ≡ field_type_at text at
+      (to : ℕ) → base < length text → byte_at text base ≡ 76 → Some to ≡ first_from 59 text (base + 1) →
+      Some (record { letter = byte_at text base; dims = base - at; from = base + 1; to = to; next = to + 1 }) ≡ field_type_at text at
   unfolding type_behind
   class_ended to inside named some =
       rw (behind, lt-leb (length text) base inside, eq-eqb (byte_at text base) 76 named, ← some, named)
 
   pub no_letter :
-      base < length text → (byte_at text base ≡ 76 → ⊥) → Absent ≡ first_from (byte_at text base) (ascii "BCDFIJSZ") 0 →
-      Unreadable ≡ field_type_at text at
+      base < length text → (byte_at text base ≡ 76 → ⊥) → None ≡ first_from (byte_at text base) (ascii "BCDFIJSZ") 0 →
+      None ≡ field_type_at text at
   unfolding type_behind
   no_letter inside other none = rw (behind, lt-leb (length text) base inside, ne_eqb (byte_at text base) 76 other, ← none)
 
   pub base_letter :
-      (k : ℕ) → base < length text → (byte_at text base ≡ 76 → ⊥) → At k ≡ first_from (byte_at text base) (ascii "BCDFIJSZ") 0 →
-      Field (record { letter = byte_at text base; dims = base - at; from = base + 1; to = base + 1; next = base + 1 }) ≡ field_type_at text at
+      (k : ℕ) → base < length text → (byte_at text base ≡ 76 → ⊥) → Some k ≡ first_from (byte_at text base) (ascii "BCDFIJSZ") 0 →
+      Some (record { letter = byte_at text base; dims = base - at; from = base + 1; to = base + 1; next = base + 1 }) ≡ field_type_at text at
   unfolding type_behind
   base_letter k inside other some =
       rw (behind, lt-leb (length text) base inside, ne_eqb (byte_at text base) 76 other, ← some)

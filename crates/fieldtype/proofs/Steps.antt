@@ -1,5 +1,6 @@
 -- Searches one byte further.
 -- Assumes nothing.
+use Rattle.std.specs.Prelude.{Some, None}
 use Prim.Native.Nat.{ℕ, ◌+◌, ◌≤◌, ◌<◌}
 use native.Mathlib.Numerals.{add-one}
 use native.Mathlib.Omega.{arith}
@@ -11,14 +12,13 @@ use borrow.Author.Tests.{eq-eqb, ne_eqb}
 use Rattle.basics.specs.Bytes.{byte_at}
 use Rattle.fieldtype.specs.Search.{first_in, first_from}
 use Rattle.fieldtype.specs.Types.{brackets}
-use Rattle.fieldtype.specs.declared.Found.TheVariants.{At, Absent}
 
 -- what remains of a text from an index in it
 pub remains : (text : List ℕ) (i : ℕ) → i < length text → drop i text ≡ byte_at text i ∷ drop (i + 1) text
 remains text i inside = drop-cons text i 0 inside ∙ ap (λ (n : ℕ). byte_at text i ∷ drop n text) (sym (add-one i))
 
 module _ (text : List ℕ) (i : ℕ) where
-  pub found_here : (byte : ℕ) → i < length text → byte_at text i ≡ byte → At i ≡ first_from byte text i
+  pub found_here : (byte : ℕ) → i < length text → byte_at text i ≡ byte → Some i ≡ first_from byte text i
   unfolding first_from first_in
   found_here byte inside e = rw (remains text i inside, eq-eqb (byte_at text i) byte e)
 
@@ -27,7 +27,7 @@ module _ (text : List ℕ) (i : ℕ) where
   unfolding first_from first_in
   found_later byte inside other = rw (remains text i inside, ne_eqb (byte_at text i) byte other)
 
-  pub found_nowhere : (byte : ℕ) → length text ≤ i → Absent ≡ first_from byte text i
+  pub found_nowhere : (byte : ℕ) → length text ≤ i → None ≡ first_from byte text i
   unfolding first_from first_in
   found_nowhere byte past = rw (drop_of_length-le text past)
 

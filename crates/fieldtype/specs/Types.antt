@@ -1,15 +1,11 @@
 -- One type of a descriptor, and types one after the other (document 01, "Descriptors", lenient).
 -- Assumes nothing.
-use Rattle.std.specs.Prelude.{ℕ, zero, suc, ◌+◌, ◌≤◌, ◌<◌, Bool, true, false, List, [], ◌∷◌, eqb, leb, length, drop}
+use Rattle.std.specs.Prelude.{ℕ, zero, suc, ◌+◌, ◌≤◌, ◌<◌, Bool, true, false, List, [], ◌∷◌, eqb, leb, length, drop, Option, Some, None}
 use Rattle.basics.specs.Ascii.{ascii}
 use Rattle.basics.specs.Bytes.{byte_at}
 use Rattle.basics.specs.Choice.{pick, both}
 use Rattle.fieldtype.specs.Search.{first_from}
-use Rattle.fieldtype.specs.declared.Found.{Found}
-use Rattle.fieldtype.specs.declared.Found.TheVariants.{At, Absent}
 use Rattle.fieldtype.specs.declared.FieldType.{FieldType}
-use Rattle.fieldtype.specs.declared.Taken.{Taken}
-use Rattle.fieldtype.specs.declared.Taken.TheVariants.{Field, Unreadable}
 
 -- the opening brackets that a text starts with: "Any number of dimensions"
 unfoldable pub brackets : List ℕ → ℕ
@@ -17,24 +13,24 @@ brackets [] = 0
 brackets (x ∷ xs) = pick (eqb x 91) (1 + brackets xs) 0
 
 -- a class, named up to a semicolon
-abbrev pub class_type : ℕ → ℕ → Found → Taken
-class_type dims from (At to) = Field (record { letter = 76; dims = dims; from = from; to = to; next = to + 1 })
-class_type dims from Absent = Unreadable
+abbrev pub class_type : ℕ → ℕ → Option ℕ → Option FieldType
+class_type dims from (Some to) = Some (record { letter = 76; dims = dims; from = from; to = to; next = to + 1 })
+class_type dims from None = None
 
 -- a base type, where the letter is one of the eight
-abbrev pub base_type : ℕ → ℕ → ℕ → Found → Taken
-base_type letter dims from (At k) = Field (record { letter = letter; dims = dims; from = from; to = from; next = from })
-base_type letter dims from Absent = Unreadable
+abbrev pub base_type : ℕ → ℕ → ℕ → Option ℕ → Option FieldType
+base_type letter dims from (Some k) = Some (record { letter = letter; dims = dims; from = from; to = from; next = from })
+base_type letter dims from None = None
 
 -- behind the brackets: "`L;` is an empty name; `V` as a parameter fails"
-unfoldable pub type_behind : List ℕ → ℕ → ℕ → Taken
+unfoldable pub type_behind : List ℕ → ℕ → ℕ → Option FieldType
 type_behind text dims base =
-    pick (leb (length text) base) Unreadable
+    pick (leb (length text) base) None
     (pick (eqb (byte_at text base) 76) (class_type dims (base + 1) (first_from 59 text (base + 1)))
     (base_type (byte_at text base) dims (base + 1) (first_from (byte_at text base) (ascii "BCDFIJSZ") 0)))
 
 -- the type at an index
-unfoldable pub field_type_at : List ℕ → ℕ → Taken
+unfoldable pub field_type_at : List ℕ → ℕ → Option FieldType
 field_type_at text at = type_behind text (brackets (drop at text)) (at + brackets (drop at text))
 
 -- a type that is read lies in the text, and takes at least a byte
@@ -44,9 +40,9 @@ pub record Inside (t : FieldType) (text : List ℕ) (at : ℕ) : Type 0 where
   pub named : t.from ≤ t.to
   pub ended : t.to ≤ length text
 
-abbrev pub taken_inside : Taken → List ℕ → ℕ → Type 0
-taken_inside (Field t) text at = Inside t text at
-taken_inside Unreadable text at = Unit
+abbrev pub taken_inside : Option FieldType → List ℕ → ℕ → Type 0
+taken_inside (Some t) text at = Inside t text at
+taken_inside None text at = Unit
 
 -- J or D
 abbrev pub is_wide : ℕ → Bool
@@ -62,10 +58,10 @@ pub data Types : Type 0 where
   unread : ℕ → Types
   one : FieldType → Types → Types
 
-abbrev pub types_step : Bool → Taken → ℕ → (ℕ → Types) → Types
+abbrev pub types_step : Bool → Option FieldType → ℕ → (ℕ → Types) → Types
 types_step true taken at following = over at
-types_step false (Field t) at following = one t (following t.next)
-types_step false Unreadable at following = unread at
+types_step false (Some t) at following = one t (following t.next)
+types_step false None at following = unread at
 
 -- "types until `)` or the end"
 abbrev pub list_over : List ℕ → ℕ → Bool

@@ -5,13 +5,6 @@ ghost use Rattle.std.specs.Prelude.{◌≡◌, ◌+◌, drop};
 ghost use Rattle.fieldtype.specs.Search.{first_from};
 ghost use Rattle.fieldtype.specs.Types.{is_wide, brackets, field_type_at, type_slots};
 
-// A place in a text, or that there is none.
-#[derive(Clone, Copy)]
-pub enum Found {
-    At(usize),
-    Absent,
-}
-
 // One type: its letter, its dimensions, where its class name lies (an empty place where it has none), and the index after it.
 #[derive(Clone, Copy)]
 pub struct FieldType {
@@ -22,23 +15,17 @@ pub struct FieldType {
     pub next: usize,
 }
 
-#[derive(Clone, Copy)]
-pub enum Taken {
-    Field(FieldType),
-    Unreadable,
-}
-
 // The first place of a byte at or after an index.
-pub fn find_byte(text: &[u8], byte: u8, from: usize) -> Found
+pub fn find_byte(text: &[u8], byte: u8, from: usize) -> Option<usize>
     ensures { result ≡ first_from byte text.now from }
 {
     let mut i = from;
     let found = loop {
         if text.len() <= i {
-            break Found::Absent;
+            break None;
         }
         if text[i] == byte {
-            break Found::At(i);
+            break Some(i);
         }
         i += 1;
     };
@@ -60,22 +47,20 @@ fn after_brackets(text: &[u8], from: usize) -> usize
 }
 
 // The type at an index: any number of dimensions, and a name up to the first semicolon, which may be empty.
-pub fn parse_field_type(text: &[u8], at: usize) -> Taken
+pub fn parse_field_type(text: &[u8], at: usize) -> Option<FieldType>
     ensures { result ≡ field_type_at text.now at }
 {
     let base = after_brackets(text, at);
     if text.len() <= base {
-        return Taken::Unreadable;
+        return None;
     }
     let letter = text[base];
     let dims = base - at;
     let from = base + 1;
     if letter == b'L' {
-        let Found::At(to) = find_byte(text, b';', from) else {
-            return Taken::Unreadable;
-        };
+        let to = find_byte(text, b';', from)?;
         let next = to + 1;
-        return Taken::Field(FieldType {
+        return Some(FieldType {
             letter,
             dims,
             from,
@@ -83,10 +68,8 @@ pub fn parse_field_type(text: &[u8], at: usize) -> Taken
             next,
         });
     }
-    let Found::At(_) = find_byte(b"BCDFIJSZ", letter, 0) else {
-        return Taken::Unreadable;
-    };
-    Taken::Field(FieldType {
+    find_byte(b"BCDFIJSZ", letter, 0)?;
+    Some(FieldType {
         letter,
         dims,
         from,

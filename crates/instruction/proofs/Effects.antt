@@ -1,5 +1,6 @@
 -- What an effect is, by the tests that the code makes of its operands and its member.
 -- Assumes nothing.
+use Rattle.std.specs.Prelude.{Some}
 use Prim.Native.Nat.{ℕ, ◌+◌, ◌≤◌, ◌<◌}
 use native.Mathlib.Omega.{arith}
 use mathlib.Core.Path.{◌≡◌, refl, ◌∙◌, sym, ap}
@@ -10,7 +11,6 @@ use lib.ListN.{length}
 use borrow.Author.Tests.{lt-ltb, le-ltb, eq-eqb, ne_eqb}
 use Rattle.basics.specs.Bytes.{byte_at, u16_at}
 use Rattle.basics.specs.Choice.{pick}
-use Rattle.fieldtype.specs.declared.Found.TheVariants.{At}
 use Rattle.descriptor.specs.Readers.{parameters, slots_behind, field_slots}
 use Rattle.descriptor.specs.declared.Params.TheVariants.{Read, Unreadable as NoParams}
 use Rattle.descriptor.specs.declared.Slots.TheVariants.{Slots as SlotsOf, Unreadable as NoSlots}
@@ -169,7 +169,7 @@ module _ (code : List ℕ) (pc : ℕ) (members : List ℕ) (count : ℕ) (table 
 
       pub call_endless :
           (args end : ℕ) → parameters (descriptor_of texts) ≡ Read args end →
-          slots_behind (descriptor_of texts) (At end) ≡ NoSlots → Calls (fails not_modelled)
+          slots_behind (descriptor_of texts) (Some end) ≡ NoSlots → Calls (fails not_modelled)
       unfolding lookup_by
       call_endless args end p r =
           some_known (calling takes) _ texts (ltb (pc + 2) (length code)) _ is some
@@ -177,7 +177,7 @@ module _ (code : List ℕ) (pc : ℕ) (members : List ℕ) (count : ℕ) (table 
 
       pub called :
           (args end gives : ℕ) → parameters (descriptor_of texts) ≡ Read args end →
-          slots_behind (descriptor_of texts) (At end) ≡ SlotsOf gives → Calls (does (takes + args) (blanks gives))
+          slots_behind (descriptor_of texts) (Some end) ≡ SlotsOf gives → Calls (does (takes + args) (blanks gives))
       unfolding lookup_by
       called args end gives p r =
           some_known (calling takes) _ texts (ltb (pc + 2) (length code)) _ is some

@@ -2,14 +2,12 @@
 -- length; else `this` for local 0 of a non-static method (flag 8 clear); else `<parameterK>` when a parameter starts at that
 -- slot; else `<localN>`."
 -- Assumes nothing.
-use Rattle.std.specs.Prelude.{ℕ, ◌+◌, ◌-◌, ◌/◌, ◌%◌, Bool, List, ◌++◌, eqb, take, drop}
+use Rattle.std.specs.Prelude.{ℕ, ◌+◌, ◌-◌, ◌/◌, ◌%◌, Bool, List, ◌++◌, eqb, take, drop, Option, Some, None}
 use Rattle.basics.specs.Ascii.{ascii}
 use Rattle.basics.specs.Choice.{pick, both}
 use Rattle.tables.specs.LocalRecord.{records_in}
 use Rattle.descriptor.specs.Readers.{parameter_at}
 use Rattle.fieldtype.specs.Search.{first_from}
-use Rattle.fieldtype.specs.declared.Found.{Found}
-use Rattle.fieldtype.specs.declared.Found.TheVariants.{At, Absent}
 use Rattle.text.specs.Decimal.{decimal}
 use Rattle.search.specs.Search.{first_match}
 use Rattle.search.specs.declared.NamePlace.{NamePlace}
@@ -23,11 +21,11 @@ is_instance flags = eqb (flags / 8 % 2) 0
 
 -- ---- parameters: "from what follows the first colon of the name signature (none without it)"
 
-abbrev pub parameter_behind : List ℕ → Bool → ℕ → Found → Found
-parameter_behind signature instance slot (At colon) = parameter_at (drop (colon + 1) signature) instance slot
-parameter_behind signature instance slot Absent = Absent
+abbrev pub parameter_behind : List ℕ → Bool → ℕ → Option ℕ → Option ℕ
+parameter_behind signature instance slot (Some colon) = parameter_at (drop (colon + 1) signature) instance slot
+parameter_behind signature instance slot None = None
 
-unfoldable pub signature_parameter : List ℕ → Bool → ℕ → Found
+unfoldable pub signature_parameter : List ℕ → Bool → ℕ → Option ℕ
 signature_parameter signature instance slot = parameter_behind signature instance slot (first_from 58 signature 0)
 
 -- ---- names
@@ -36,9 +34,9 @@ unfoldable pub numbered_name : List ℕ → ℕ → List ℕ
 numbered_name word n = word ++ decimal n ++ ascii ">"
 
 -- `<parameterK>` or `<localN>`
-abbrev pub parameter_name : Found → ℕ → List ℕ
-parameter_name (At k) slot = numbered_name (ascii "<parameter") k
-parameter_name Absent slot = numbered_name (ascii "<local") slot
+abbrev pub parameter_name : Option ℕ → ℕ → List ℕ
+parameter_name (Some k) slot = numbered_name (ascii "<parameter") k
+parameter_name None slot = numbered_name (ascii "<local") slot
 
 -- without a record
 abbrev pub unnamed : List ℕ → Bool → ℕ → List ℕ

@@ -7,7 +7,6 @@ ghost use Rattle.text.specs.Decimal.{decimal};
 ghost use Rattle.text.specs.Writing.{Written};
 ghost use Rattle.locals.specs.Name.{is_instance, signature_parameter, numbered_name, unnamed, local_name};
 
-use fieldtype::Found;
 use search::{NamePlace, find_record};
 use text::{put_at, put_decimal_at};
 
@@ -19,12 +18,10 @@ pub fn is_instance(flags: usize) -> bool
 }
 
 // The number of the parameter that starts at a slot, by what follows the first colon of the signature.
-fn signature_parameter(signature: &[u8], instance: bool, slot: usize) -> Found
+fn signature_parameter(signature: &[u8], instance: bool, slot: usize) -> Option<usize>
     ensures { result ≡ signature_parameter signature.now instance slot }
 {
-    let Found::At(colon) = fieldtype::find_byte(signature, b':', 0) else {
-        return Found::Absent;
-    };
+    let colon = fieldtype::find_byte(signature, b':', 0)?;
     let from = colon + 1;
     descriptor::parameter_at(&signature[from..], instance, slot)
 }
@@ -54,7 +51,7 @@ fn put_unnamed_at(out: &mut [u8], at: usize, signature: &[u8], instance: bool, s
     if is_this(instance, slot) {
         return put_at(out, at, b"this");
     }
-    let Found::At(k) = signature_parameter(signature, instance, slot) else {
+    let Some(k) = signature_parameter(signature, instance, slot) else {
         return put_numbered_at(out, at, b"<local", slot);
     };
     put_numbered_at(out, at, b"<parameter", k)

@@ -1,11 +1,11 @@
 -- What is known of a member, by the tests that the code makes: no texts or some in a run; resolved or not, and of which kind, in a pool.
 -- Assumes nothing.
+use Rattle.std.specs.Prelude.{Some}
 use Prim.Native.Nat.{ℕ}
 use mathlib.Core.Path.{◌≡◌, ◌∙◌}
 use mathlib.Core.List.{List}
 use lib.ListN.{length}
 use borrow.Author.Tests.{eq-eqb, ne_eqb}
-use Rattle.fieldtype.specs.declared.Found.TheVariants.{At}
 use Rattle.descriptor.specs.Readers.{parameters, slots_behind}
 use Rattle.descriptor.specs.declared.Params.TheVariants.{Read as ReadParams, Unreadable as NoParams}
 use Rattle.descriptor.specs.declared.Slots.TheVariants.{Slots as SlotsOf, Unreadable as NoSlots}
@@ -55,11 +55,11 @@ module _ (descriptor : List ℕ) where
   unread p = rw p
 
   pub endless :
-      (args end : ℕ) → parameters descriptor ≡ ReadParams args end → slots_behind descriptor (At end) ≡ NoSlots →
+      (args end : ℕ) → parameters descriptor ≡ ReadParams args end → slots_behind descriptor (Some end) ≡ NoSlots →
       Unreadable ≡ signature_of descriptor
   endless args end p r = rw (p, behind_end descriptor args end p ∙ r)
 
   pub read :
-      (args end gives : ℕ) → parameters descriptor ≡ ReadParams args end → slots_behind descriptor (At end) ≡ SlotsOf gives →
+      (args end gives : ℕ) → parameters descriptor ≡ ReadParams args end → slots_behind descriptor (Some end) ≡ SlotsOf gives →
       Read args gives ≡ signature_of descriptor
   read args end gives p r = rw (p, behind_end descriptor args end p ∙ r)

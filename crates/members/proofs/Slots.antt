@@ -1,5 +1,6 @@
 -- A call has few slots: a byte of a method's descriptor gives two at most.
 -- Assumes nothing.
+use Rattle.std.specs.Prelude.{Option, Some, None}
 use Prim.Native.Nat.{ℕ, zero, suc, ◌*◌, ◌≤◌}
 use native.Mathlib.Omega.{arith}
 use mathlib.Core.Path.{◌≡◌}
@@ -10,8 +11,7 @@ use lib.ListN.{length}
 use Rattle.basics.specs.Bytes.{byte_at}
 use Rattle.basics.specs.Choice.{pick}
 use Rattle.fieldtype.specs.Types.{field_type_at, Types, over, unread, one, types_step, list_over, types_from, types_at, types_of}
-use Rattle.fieldtype.specs.declared.Taken.{Taken}
-use Rattle.fieldtype.specs.declared.Taken.TheVariants as taken
+use Rattle.fieldtype.specs.declared.FieldType.{FieldType}
 use Rattle.descriptor.specs.Readers.{slots_of, judged, parameters}
 use Rattle.descriptor.specs.declared.Params.TheVariants.{Read, Unreadable}
 use Rattle.descriptor.proofs.Listing.{one_or_two}
@@ -22,11 +22,11 @@ few_from text zero at = omega arith
 few_from text (suc k) at = by_step (list_over text at) (field_type_at text at) (λ next. few_from text k next)
   where
     by_step :
-        (b : Bool) (t : Taken) → ((next : ℕ) → slots_of (types_from text k next) ≤ 2 * k) →
+        (b : Bool) (t : Option FieldType) → ((next : ℕ) → slots_of (types_from text k next) ≤ 2 * k) →
         slots_of (types_step b t at (λ next. types_from text k next)) ≤ 2 * suc k
     by_step true t fewer = omega arith
-    by_step false (taken.Field t) fewer = omega (arith, (one_or_two t).1, fewer t.next)
-    by_step false taken.Unreadable fewer = omega arith
+    by_step false (Some t) fewer = omega (arith, (one_or_two t).1, fewer t.next)
+    by_step false None fewer = omega arith
 
 judged_slots : (types : Types) (n slots end : ℕ) → judged types n ≡ Read slots end → n ≡ slots
 unfolding judged

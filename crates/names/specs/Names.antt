@@ -1,14 +1,12 @@
 -- Names as the messages print them (document 01, "Action and cause").
 -- Assumes nothing.
-use Rattle.std.specs.Prelude.{ℕ, zero, suc, ◌-◌, List, [], ◌∷◌, ◌++◌, eqb, take, drop, get_or}
+use Rattle.std.specs.Prelude.{ℕ, zero, suc, ◌-◌, List, [], ◌∷◌, ◌++◌, eqb, take, drop, get_or, Option, Some, None}
 use Rattle.basics.specs.Ascii.{ascii}
 use Rattle.basics.specs.Choice.{pick}
 use Rattle.classname.specs.ClassName.{class_name}
 use Rattle.fieldtype.specs.Search.{first_from}
 use Rattle.fieldtype.specs.Types.{Types, over, unread, one, types_of}
 use Rattle.fieldtype.specs.declared.FieldType.{FieldType}
-use Rattle.fieldtype.specs.declared.Found.{Found}
-use Rattle.fieldtype.specs.declared.Found.TheVariants.{At, Absent}
 
 -- ---- types
 
@@ -17,9 +15,9 @@ unfoldable pub base_names : List (List ℕ)
 base_names =
     ascii "byte" ∷ ascii "char" ∷ ascii "double" ∷ ascii "float" ∷ ascii "int" ∷ ascii "long" ∷ ascii "short" ∷ ascii "boolean" ∷ []
 
-abbrev pub name_at : Found → List ℕ
-name_at (At k) = get_or base_names k []
-name_at Absent = []
+abbrev pub name_at : Option ℕ → List ℕ
+name_at (Some k) = get_or base_names k []
+name_at None = []
 
 unfoldable pub base_name : ℕ → List ℕ
 base_name letter = name_at (first_from letter (ascii "BCDFIJSZ") 0)

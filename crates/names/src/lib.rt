@@ -8,7 +8,7 @@ ghost use Rattle.names.specs.Commas.{comma_before};
 ghost use Rattle.names.specs.Names.{base_names, base_name, bracket_pairs, element_name, type_name, parameter_names};
 
 use classname::put_class_name;
-use fieldtype::{FieldType, Found, Taken};
+use fieldtype::FieldType;
 use text::{put, put_at};
 
 // A base type's name: its length, its bytes and zeros.
@@ -65,7 +65,7 @@ fn base_row(k: usize) -> BaseName
 fn put_base_name(out: &mut [u8], letter: u8) -> usize
     ensures { Written 0 (base_name letter) out.old result out.new }
 {
-    let Found::At(k) = fieldtype::find_byte(b"BCDFIJSZ", letter, 0) else {
+    let Some(k) = fieldtype::find_byte(b"BCDFIJSZ", letter, 0) else {
         return 0;
     };
     let row = base_row(k);
@@ -162,7 +162,7 @@ pub fn put_params_at(out: &mut [u8], at: usize, descriptor: &[u8]) -> usize
         if descriptor[index] == b')' {
             return next;
         }
-        let Taken::Field(t) = fieldtype::parse_field_type(descriptor, index) else {
+        let Some(t) = fieldtype::parse_field_type(descriptor, index) else {
             return next;
         };
         next = put_param_at(out, next, descriptor, index, t);

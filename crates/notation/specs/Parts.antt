@@ -1,17 +1,15 @@
 -- The parts of a row.
 -- Assumes nothing.
-use Rattle.std.specs.Prelude.{ℕ, ◌+◌, ◌-◌, min, Bool, true, false, List, eqb, length}
+use Rattle.std.specs.Prelude.{ℕ, ◌+◌, ◌-◌, min, Bool, true, false, List, eqb, length, Option, Some, None}
 use Rattle.basics.specs.Bytes.{byte_at}
 use Rattle.basics.specs.Choice.{pick}
 use Rattle.fieldtype.specs.Search.{first_from}
-use Rattle.fieldtype.specs.declared.Found.{Found}
-use Rattle.fieldtype.specs.declared.Found.TheVariants.{At, Absent}
 use Rattle.items.specs.Text.{part_at}
 use Rattle.text.specs.Writing.{most}
 
-abbrev pub up_to : Found → List ℕ → ℕ → List ℕ
-up_to (At end) text at = part_at text at (end - at)
-up_to Absent text at = part_at text at (length text)
+abbrev pub up_to : Option ℕ → List ℕ → ℕ → List ℕ
+up_to (Some end) text at = part_at text at (end - at)
+up_to None text at = part_at text at (length text)
 
 -- the part of a text from a place to the next such byte, or to the text's end
 unfoldable pub part_to : ℕ → List ℕ → ℕ → List ℕ

@@ -13,7 +13,7 @@ ghost use Rattle.std.specs.Prelude.{◌≤◌, ◌<◌, ◌≡◌, take};
 ghost use Rattle.notation.specs.Parts.{part_to, behind, is_row};
 
 use check::same;
-use fieldtype::{Found, find_byte};
+use fieldtype::find_byte;
 use items::part_at;
 use std::io::Read;
 use std::rt::Files;
@@ -51,7 +51,7 @@ pub fn first_numbers<'a>(numbers: &'a mut [u64], count: usize) -> &'a mut [u64]
 pub fn part_to<'a>(text: &'a [u8], at: usize, byte: u8) -> &'a [u8]
     ensures { result.now ≡ part_to byte text.now at }
 {
-    let Found::At(end) = find_byte(text, byte, at) else {
+    let Some(end) = find_byte(text, byte, at) else {
         return part_at(text, at, text.len());
     };
     part_at(text, at, end - at)

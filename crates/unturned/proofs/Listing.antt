@@ -1,6 +1,7 @@
 -- Types one after the other, at two places from which on two texts are alike.
 -- Rests on: one type (OneType).
 -- Assumes nothing.
+use Rattle.std.specs.Prelude.{Option}
 use Prim.Native.Nat.{ℕ, zero, suc, ◌+◌, ◌≤◌, ◌<◌}
 use native.Mathlib.Omega.{arith}
 use mathlib.Core.Bool.{Bool, true, false}
@@ -13,7 +14,6 @@ use Rattle.basics.specs.Bytes.{byte_at}
 use Rattle.fieldtype.specs.Types.{field_type_at, taken_inside, type_slots, Types, over, unread, one, types_at}
 use Rattle.fieldtype.proofs.Bounds.{taken-inside}
 use Rattle.fieldtype.specs.declared.FieldType.{FieldType}
-use Rattle.fieldtype.specs.declared.Taken.{Taken}
 use Rattle.descriptor.specs.Readers.{slots_of, judged}
 use Rattle.descriptor.specs.declared.Params.{Params}
 use Rattle.descriptor.specs.declared.Params.TheVariants.{Read, Unreadable as UnreadableParams}
@@ -42,7 +42,7 @@ module _ (text turned : List ℕ) where
   module _ (i j : ℕ) (p : i < length text) (q : j < length turned) where
     one_step :
         (byte_at text i ≡ 41 → ⊥) → (byte_at turned j ≡ 41 → ⊥) →
-        {f g : Taken} → TakenAlike text turned f g → field_type_at text i ≡ f → field_type_at turned j ≡ g → taken_inside f text i →
+        {f g : Option FieldType} → TakenAlike text turned f g → field_type_at text i ≡ f → field_type_at turned j ≡ g → taken_inside f text i →
         ((m n : ℕ) → i < m → Meet text turned m n → TypesAlike (types_at text m) (types_at turned n)) →
         TypesAlike (types_at text i) (types_at turned j)
     one_step going going' none_taken e f within onward = rw (list_unread text i p going e, list_unread turned j q going' f) both_unread

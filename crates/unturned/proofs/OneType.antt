@@ -1,5 +1,6 @@
 -- One type of a descriptor, at two places from which on two texts are alike.
 -- Assumes nothing.
+use Rattle.std.specs.Prelude.{Option, Some, None}
 use Prim.Native.Nat.{ℕ, suc, ◌+◌, ◌≤◌, ◌<◌}
 use native.Mathlib.Nat.{add-zero}
 use native.Mathlib.Omega.{arith}
@@ -16,10 +17,6 @@ use Rattle.basics.specs.Choice.{pick}
 use Rattle.fieldtype.specs.Search.{first_in, first_from}
 use Rattle.fieldtype.specs.Types.{brackets, class_type, base_type, type_behind, field_type_at, type_slots}
 use Rattle.fieldtype.specs.declared.FieldType.{FieldType}
-use Rattle.fieldtype.specs.declared.Found.{Found}
-use Rattle.fieldtype.specs.declared.Found.TheVariants.{At, Absent}
-use Rattle.fieldtype.specs.declared.Taken.{Taken}
-use Rattle.fieldtype.specs.declared.Taken.TheVariants.{Field, Unreadable}
 use Rattle.unturned.proofs.Alike.{is_other, no_other, Strangers, only_one, one_more, Alike, both_end, same_byte, strange_runs}
 use Rattle.unturned.proofs.Alike.{Headed, headed, Start, no_byte, one_byte, strange_bytes, start}
 
@@ -77,10 +74,10 @@ opened (strange_runs {run} {other} {text} {turned} s r alike) =
 -- ---- the first semicolon
 
 -- places found from i and from j on, behind which the texts are alike
-data FoundAlike (xs ys : List ℕ) (i j : ℕ) : Found → Found → Type 0 where
-  none_found : FoundAlike xs ys i j Absent Absent
+data FoundAlike (xs ys : List ℕ) (i j : ℕ) : Option ℕ → Option ℕ → Type 0 where
+  none_found : FoundAlike xs ys i j None None
   both_found :
-      {p q : ℕ} (a b : ℕ) → p + 1 ≡ i + a → q + 1 ≡ j + b → Alike (drop a xs) (drop b ys) → FoundAlike xs ys i j (At p) (At q)
+      {p q : ℕ} (a b : ℕ) → p + 1 ≡ i + a → q + 1 ≡ j + b → Alike (drop a xs) (drop b ys) → FoundAlike xs ys i j (Some p) (Some q)
 
 -- a run has no semicolon
 passed : {run : List ℕ} → Strangers run → (text : List ℕ) (i : ℕ) → first_in 59 (run ++ text) i ≡ first_in 59 text (i + length run)
@@ -95,20 +92,20 @@ unfolding first_in
 found_alike both_end i j = none_found
 found_alike (same_byte {x} {text} {turned} alike) i j = by_byte (eqb x 59) (found_alike alike (i + 1) (j + 1))
   where
-    onward : {f g : Found} → FoundAlike text turned (i + 1) (j + 1) f g → FoundAlike (x ∷ text) (x ∷ turned) i j f g
+    onward : {f g : Option ℕ} → FoundAlike text turned (i + 1) (j + 1) f g → FoundAlike (x ∷ text) (x ∷ turned) i j f g
     onward none_found = none_found
     onward (both_found {p} {q} a b e f behind) = both_found {p = p} {q = q} (suc a) (suc b) (omega (arith, e)) (omega (arith, f)) behind
 
     by_byte :
         (b : Bool) → FoundAlike text turned (i + 1) (j + 1) (first_in 59 text (i + 1)) (first_in 59 turned (j + 1)) →
-        FoundAlike (x ∷ text) (x ∷ turned) i j (pick b (At i) (first_in 59 text (i + 1))) (pick b (At j) (first_in 59 turned (j + 1)))
+        FoundAlike (x ∷ text) (x ∷ turned) i j (pick b (Some i) (first_in 59 text (i + 1))) (pick b (Some j) (first_in 59 turned (j + 1)))
     by_byte true later = both_found 1 1 refl refl alike
     by_byte false later = onward later
 found_alike (strange_runs {run} {other} {text} {turned} s r alike) i j =
     rw (passed s text i, passed r turned j) (onward (found_alike alike (i + length run) (j + length other)))
   where
     onward :
-        {f g : Found} → FoundAlike text turned (i + length run) (j + length other) f g →
+        {f g : Option ℕ} → FoundAlike text turned (i + length run) (j + length other) f g →
         FoundAlike (run ++ text) (other ++ turned) i j f g
     onward none_found = none_found
     onward (both_found {p} {q} a b e f behind) =
@@ -123,12 +120,12 @@ module _ (text turned : List ℕ) where
   Meet i j = Alike (drop i text) (drop j turned)
 
   -- readable in both or in neither, with the same slots, and alike behind
-  pub data TakenAlike : Taken → Taken → Type 0 where
-    none_taken : TakenAlike Unreadable Unreadable
-    both_taken : {f g : FieldType} → type_slots f ≡ type_slots g → Meet f.next g.next → TakenAlike (Field f) (Field g)
+  pub data TakenAlike : Option FieldType → Option FieldType → Type 0 where
+    none_taken : TakenAlike None None
+    both_taken : {f g : FieldType} → type_slots f ≡ type_slots g → Meet f.next g.next → TakenAlike (Some f) (Some g)
 
   class_alike :
-      (dims i j : ℕ) {f g : Found} → FoundAlike (drop i text) (drop j turned) i j f g →
+      (dims i j : ℕ) {f g : Option ℕ} → FoundAlike (drop i text) (drop j turned) i j f g →
       TakenAlike (class_type dims i f) (class_type dims j g)
   unfolding type_slots
   class_alike dims i j none_found = none_taken
@@ -137,10 +134,10 @@ module _ (text turned : List ℕ) where
       both_taken refl meet
 
   base_alike :
-      (x dims i j : ℕ) (found : Found) → Meet i j → TakenAlike (base_type x dims i found) (base_type x dims j found)
+      (x dims i j : ℕ) (found : Option ℕ) → Meet i j → TakenAlike (base_type x dims i found) (base_type x dims j found)
   unfolding type_slots
-  base_alike x dims i j (At k) meet = both_taken refl meet
-  base_alike x dims i j Absent meet = none_taken
+  base_alike x dims i j (Some k) meet = both_taken refl meet
+  base_alike x dims i j None meet = none_taken
 
   behind_alike : (dims i j : ℕ) → Meet i j → TakenAlike (type_behind text dims i) (type_behind turned dims j)
   unfolding type_behind first_from first_in
@@ -162,7 +159,7 @@ module _ (text turned : List ℕ) where
       of (strange_bytes h k) =
           rw (unread text i h, unread turned j k) none_taken
         where
-          unread : (whole : List ℕ) (at : ℕ) → Headed (drop at whole) → type_behind whole dims at ≡ Unreadable
+          unread : (whole : List ℕ) (at : ℕ) → Headed (drop at whole) → type_behind whole dims at ≡ None
           unread whole at h =
               rw (
                 lt-leb (length whole) at (inside whole at h.is),

@@ -1,6 +1,7 @@
 -- The readers of descriptors answer the same of two texts that are alike, so also of a text of a class file and what it turns to.
 -- Rests on: such texts are alike (Turning), and types one after the other (Listing).
 -- Assumes nothing.
+use Rattle.std.specs.Prelude.{Some}
 use Prim.Native.Nat.{ℕ, ◌+◌}
 use native.Mathlib.Omega.{arith}
 use mathlib.Core.Bool.{Bool, true, false}
@@ -12,7 +13,6 @@ use borrow.Author.Tests.{le-leb, lt-leb}
 use Rattle.basics.specs.Bytes.{byte_at}
 use Rattle.basics.specs.Choice.{pick}
 use Rattle.fieldtype.specs.Types.{types_at, types_of}
-use Rattle.fieldtype.specs.declared.Found.TheVariants.{At}
 use Rattle.descriptor.specs.Readers.{slots_of, judged, parameters, end_of, closing, byte_slots, slots_behind, return_slots, field_slots}
 use Rattle.descriptor.specs.declared.Params.{Params}
 use Rattle.descriptor.specs.declared.Params.TheVariants.{Unreadable as UnreadableParams}
@@ -68,25 +68,25 @@ module _ (text turned : List ℕ) where
 
   -- ---- the return
 
-  same_behind : (i j : ℕ) → Meet text turned (i + 1) (j + 1) → slots_behind turned (At j) ≡ slots_behind text (At i)
+  same_behind : (i j : ℕ) → Meet text turned (i + 1) (j + 1) → slots_behind turned (Some j) ≡ slots_behind text (Some i)
   unfolding slots_behind
   same_behind i j meet = of (start meet)
     where
-      none_behind : (whole : List ℕ) (end : ℕ) → drop (end + 1) whole ≡ [] → slots_behind whole (At end) ≡ UnreadableSlots
+      none_behind : (whole : List ℕ) (end : ℕ) → drop (end + 1) whole ≡ [] → slots_behind whole (Some end) ≡ UnreadableSlots
       none_behind whole end e = rw (le-leb (length whole) (end + 1) (past whole (end + 1) e))
 
       some_behind :
           (whole : List ℕ) (end x : ℕ) (rest : List ℕ) → drop (end + 1) whole ≡ x ∷ rest →
-          slots_behind whole (At end) ≡ SlotsOf (byte_slots x)
+          slots_behind whole (Some end) ≡ SlotsOf (byte_slots x)
       some_behind whole end x rest e =
           rw (lt-leb (length whole) (end + 1) (inside whole (end + 1) e), byte_is whole (end + 1) e)
 
-      one_slot : (whole : List ℕ) (end : ℕ) → Headed (drop (end + 1) whole) → slots_behind whole (At end) ≡ SlotsOf 1
+      one_slot : (whole : List ℕ) (end : ℕ) → Headed (drop (end + 1) whole) → slots_behind whole (Some end) ≡ SlotsOf 1
       one_slot whole end h =
           some_behind whole end h.byte h.rest h.is
           ∙ rw (is_other h.strange 86 tt, is_other h.strange 74 tt, is_other h.strange 68 tt)
 
-      of : Start (drop (i + 1) text) (drop (j + 1) turned) → slots_behind turned (At j) ≡ slots_behind text (At i)
+      of : Start (drop (i + 1) text) (drop (j + 1) turned) → slots_behind turned (Some j) ≡ slots_behind text (Some i)
       of (no_byte p q) = none_behind turned j q ∙ sym (none_behind text i p)
       of (one_byte x xs ys p q next) = some_behind turned j x ys q ∙ sym (some_behind text i x xs p)
       of (strange_bytes h k) = one_slot turned j k ∙ sym (one_slot text i h)

@@ -1,5 +1,6 @@
 -- `descriptor::parameter_at` meets its contract. The loop's invariant: the parameter sought from here is the one sought from the start.
 -- Assumes nothing.
+use Rattle.std.specs.Prelude.{Option, Some}
 use Prim.Native.Nat.{ℕ, ◌≤◌}
 use native.Mathlib.Omega.{arith}
 use mathlib.Core.Bool.{Bool, true, false}
@@ -7,13 +8,12 @@ use mathlib.Core.Path.{◌≡◌, ◌∙◌, sym, subst, ap}
 use Rattle.basics.specs.Choice.{pick}
 use Rattle.descriptor.specs.Readers.{starting_at, parameter_at}
 use Rattle.fieldtype.specs.Types.{field_type_at, taken_inside, Inside, one, types_at, types_of}
-use Rattle.fieldtype.specs.declared.Taken.{Taken}
-use Rattle.fieldtype.specs.declared.Taken.TheVariants.{Field}
 use Rattle.fieldtype.proofs.Bounds.{taken-inside}
+use Rattle.fieldtype.specs.declared.FieldType.{FieldType}
 use Rattle.descriptor.proofs.Listing.{list_past, list_closed, list_unread, list_one, one_or_two}
 use Rattle.descriptor.proofs.Turns.{found_now, found_on, none_over, none_unread}
 use Rattle.descriptor.proofs.parameter_at.Goals as goal
-use Rattle.descriptor.proofs.parameter_at.Goals.{In-Field}
+use Rattle.descriptor.proofs.parameter_at.Goals.{In_ok-t}
 
 one_at_most : (b : Bool) → pick b 1 0 ≤ 1
 one_at_most true = omega arith
@@ -39,63 +39,63 @@ returns-then-descriptor-at-eq41 c =
     (list_closed a.descriptor.now l.at c.loop-at-test.true c.if-descriptor-at-eq41.true)
     ∙ l.invariant.0
 
-pub returns-in_default : goal.returns-in_default
-returns-in_default c =
+pub returns-in_err-t : goal.returns-in_err-t
+returns-in_err-t c =
     let a = c.args in
     let l = c.loop-at in
-    none_unread (types_at a.descriptor.now l.at) l.first a.slot l.k l.at
-    (list_unread a.descriptor.now l.at c.loop-at-test.true c.if-descriptor-at-eq41.false
-    (sym c.parse_field_type.ensures ∙ c.in_default.is))
+    c.from_residual.ensures
+    ∙ none_unread (types_at a.descriptor.now l.at) l.first a.slot l.k l.at
+    (list_unread a.descriptor.now l.at c.loop-at-test.true c.if-descriptor-at-eq41.false (sym c.in_err-t.ensures))
     ∙ l.invariant.0
 
 -- the type of a turn
 read :
-    (c : In-Field) →
-    field_type_at c.args.descriptor.now c.loop-at.at ≡ Field c.in-Field.t
-read c = sym c.parse_field_type.ensures ∙ c.in-Field.is
+    (c : In_ok-t) →
+    field_type_at c.args.descriptor.now c.loop-at.at ≡ Some c.in_ok-t.t
+read c = sym c.in_ok-t.ensures
 
 inside :
-    (c : In-Field) →
-    Inside c.in-Field.t c.args.descriptor.now c.loop-at.at
+    (c : In_ok-t) →
+    Inside c.in_ok-t.t c.args.descriptor.now c.loop-at.at
 inside c =
     let a = c.args in
     let l = c.loop-at in
-    subst (λ (r : Taken). taken_inside r a.descriptor.now l.at) (read c) (taken-inside a.descriptor.now l.at)
+    subst (λ (r : Option FieldType). taken_inside r a.descriptor.now l.at) (read c) (taken-inside a.descriptor.now l.at)
 
 listed :
-    (c : In-Field) →
+    (c : In_ok-t) →
     types_at c.args.descriptor.now c.loop-at.at
-    ≡ one c.in-Field.t (types_at c.args.descriptor.now c.in-Field.t.next)
+    ≡ one c.in_ok-t.t (types_at c.args.descriptor.now c.in_ok-t.t.next)
 listed c =
     list_one c.args.descriptor.now c.loop-at.at c.loop-at-test.true c.if-descriptor-at-eq41.false
-    c.in-Field.t (read c)
+    c.in_ok-t.t (read c)
 
 pub returns-then-first-slot : goal.returns-then-first-slot
 returns-then-first-slot c =
     let a = c.args in
     let l = c.loop-at in
-    let t = c.in-Field.t in
+    let t = c.in_ok-t.t in
     found_now (types_at a.descriptor.now l.at) l.first a.slot l.k t (types_at a.descriptor.now t.next)
-    (listed (goal.at.returns-then-first-slot c).In-Field) c.if-first-slot.true
+    (listed (goal.at.returns-then-first-slot c).In_ok-t) c.if-first-slot.true
     ∙ l.invariant.0
 
 pub overflow_add-first : goal.overflow_add-first
-overflow_add-first c = omega (arith, c.type_slots-first.ensures, one_or_two c.in-Field.t)
+overflow_add-first c = omega (arith, c.type_slots-first.ensures, one_or_two c.in_ok-t.t)
 
 pub overflow_add-k : goal.overflow_add-k
 overflow_add-k c = omega arith
 
 pub loop-at-smaller : goal.loop-at-smaller
-loop-at-smaller c = omega (arith, inside (goal.at.loop-at-smaller c).In-Field)
+loop-at-smaller c = omega (arith, inside (goal.at.loop-at-smaller c).In_ok-t)
 
 pub loop-at-preserved : goal.loop-at-preserved
 loop-at-preserved c =
     let a = c.args in
     let l = c.loop-at in
-    let t = c.in-Field.t in
-    let is = inside (goal.at.loop-at-preserved c).In-Field in (
+    let t = c.in_ok-t.t in
+    let is = inside (goal.at.loop-at-preserved c).In_ok-t in (
       found_on (types_at a.descriptor.now l.at) l.first a.slot l.k t (types_at a.descriptor.now t.next)
-          c.type_slots-first.result (listed (goal.at.loop-at-preserved c).In-Field) c.type_slots-first.ensures c.if-first-slot.false
+          c.type_slots-first.result (listed (goal.at.loop-at-preserved c).In_ok-t) c.type_slots-first.ensures c.if-first-slot.false
           ∙ l.invariant.0,
       omega (arith, c.type_slots-first.ensures, one_or_two t, is.onward),
       omega (arith, is.onward),

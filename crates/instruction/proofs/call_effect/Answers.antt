@@ -1,10 +1,10 @@
 -- `instruction::call_effect` meets its contract. The ways in which it fails, then the slots that the descriptor gives.
 -- Assumes nothing.
+use Rattle.std.specs.Prelude.{Some}
 use Prim.Native.Nat.{ℕ}
 use native.Mathlib.Omega.{arith}
 use mathlib.Core.Path.{◌∙◌, ap, sym}
 use mathlib.Core.List.{List}
-use Rattle.fieldtype.specs.declared.Found.TheVariants.{At}
 use Rattle.descriptor.specs.Readers.{parameters, slots_behind}
 use Rattle.instruction.proofs.Effects as laws
 use Rattle.instruction.proofs.Slots.{few_slots}
@@ -29,7 +29,7 @@ returns-in_default-slots_behind c =
     laws.call_endless a.code.now a.pc a.members.now a.count a.table.now a.takes _
     c.cited_texts-texts.ensures c.if-texts-eq0.false _ c.in-Read.end
     (ap parameters (sym c.descriptor_of-signature.ensures) ∙ sym c.parse_method_params.ensures ∙ c.in-Read.is)
-    (ap (λ (d : List ℕ). slots_behind d (At c.in-Read.end)) (sym c.descriptor_of-signature.ensures)
+    (ap (λ (d : List ℕ). slots_behind d (Some c.in-Read.end)) (sym c.descriptor_of-signature.ensures)
     ∙ sym c.slots_behind.ensures ∙ c.in_default-slots_behind.is)
 
 -- a descriptor has few slots, and a row takes one at most
@@ -44,5 +44,5 @@ returns c =
     laws.called a.code.now a.pc a.members.now a.count a.table.now a.takes _
     c.cited_texts-texts.ensures c.if-texts-eq0.false _ c.in-Read.end _
     (ap parameters (sym c.descriptor_of-signature.ensures) ∙ sym c.parse_method_params.ensures ∙ c.in-Read.is)
-    (ap (λ (d : List ℕ). slots_behind d (At c.in-Read.end)) (sym c.descriptor_of-signature.ensures)
+    (ap (λ (d : List ℕ). slots_behind d (Some c.in-Read.end)) (sym c.descriptor_of-signature.ensures)
     ∙ sym c.slots_behind.ensures ∙ c.in-Slots.is)

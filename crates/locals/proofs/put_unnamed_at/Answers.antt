@@ -12,4 +12,4 @@ returns-in_default c =
 
 pub returns : goal.returns
 returns c =
-    rw (sym c.is_this.ensures ∙ c.if-is_this.false, sym c.signature_parameter.ensures ∙ c.in-At.is) c.put_numbered_at-2.ensures
+    rw (sym c.is_this.ensures ∙ c.if-is_this.false, sym c.signature_parameter.ensures ∙ c.in-Some.is) c.put_numbered_at-2.ensures
