@@ -1,9 +1,9 @@
 -- What was read, by what the readers of a local table's entry and of a Code tell.
 -- Assumes nothing.
+use Rattle.std.specs.Prelude.{Ok, Err}
 use Prim.Native.Nat.{ℕ}
 use native.Mathlib.Omega.{arith}
 use mathlib.Core.Path.{◌≡◌, ap}
-use Rattle.tables.specs.declared.Run.TheVariants as run
 use Rattle.format.specs.Format.{Reading, right, wrong}
 use Rattle.format.specs.Items.{run_of}
 use Rattle.classformat.specs.Contents.{Local, Code}
@@ -17,13 +17,13 @@ pub record_is :
     (l : Local) (end : ℕ) {place : LocalPlace} → record_told (right l end) ≡ local.Read place → record_of l end ≡ place
 record_is l end e = cc
 
-pub record_ended : (r : Reading Local) {place : LocalPlace} → record_told r ≡ local.Read place → run_of r ≡ run.End place.next
-record_ended (right l end) e = ap (λ (p : LocalPlace). run.End p.next) (record_is l end e)
+pub record_ended : (r : Reading Local) {place : LocalPlace} → record_told r ≡ local.Read place → run_of r ≡ Ok place.next
+record_ended (right l end) e = ap (λ (p : LocalPlace). Ok p.next) (record_is l end e)
 record_ended (wrong offset) e = let z : ◌≡◌ {A = ℕ} 0 1 = cc in absurd (omega arith)
 
-pub record_wrong : (r : Reading Local) {place : ℕ} → record_told r ≡ local.Wrong place → run_of r ≡ run.Wrong place
+pub record_wrong : (r : Reading Local) {place : ℕ} → record_told r ≡ local.Wrong place → run_of r ≡ Err place
 record_wrong (right l end) e = let z : ◌≡◌ {A = ℕ} 0 1 = cc in absurd (omega arith)
-record_wrong (wrong offset) {place} e = let same : offset ≡ place = cc in ap run.Wrong same
+record_wrong (wrong offset) {place} e = let same : offset ≡ place = cc in ap Err same
 
 pub code_read :
     (r : Reading Code) {place : CodePlace} {next : ℕ} → code_told r ≡ Read place next →

@@ -1,5 +1,6 @@
 // The Code of a method (JVMS 4.7.3) with its exception table and its local tables (JVMS 4.7.13), judged by the format. Every function takes
 // any file, any table of the pool's places, any place and any limit.
+// A run of items answers the place after its last item, or the place of the first wrong one.
 #![tactic(auto)]
 
 ghost use Rattle.std.specs.Prelude.{◌≡◌};
@@ -13,7 +14,6 @@ ghost use Rattle.bodies.specs.Body.{record_told, code_told};
 use attributes::pass_over;
 use entries::{is_name, is_named};
 use format::{Item, Window, bytes_to, read_u2, read_window};
-use tables::Run;
 
 // The longest code (JVMS 4.7.3).
 const LONGEST: usize = 65535;
@@ -65,42 +65,35 @@ fn is_code_length(size: usize) -> bool
 }
 
 // An entry of an exception table.
-fn read_handler(file: &[u8], at: usize, limit: usize) -> Run
+fn read_handler(file: &[u8], at: usize, limit: usize) -> Result<usize, usize>
     ensures { result ≡ run_of (read_by (handler_format limit) file.now at) }
 {
     let Item::Value(_, end_at) = read_u2(file, at, limit) else {
-        return Run::Wrong(at);
+        return Err(at);
     };
     let Item::Value(_, handler_at) = read_u2(file, end_at, limit) else {
-        return Run::Wrong(end_at);
+        return Err(end_at);
     };
     let Item::Value(_, caught_at) = read_u2(file, handler_at, limit) else {
-        return Run::Wrong(handler_at);
+        return Err(handler_at);
     };
     let Item::Value(_, next) = read_u2(file, caught_at, limit) else {
-        return Run::Wrong(caught_at);
+        return Err(caught_at);
     };
-    Run::End(next)
+    Ok(next)
 }
 
 // So many entries of an exception table.
-pub fn read_handlers(file: &[u8], from: usize, count: usize, limit: usize) -> Run
+pub fn read_handlers(file: &[u8], from: usize, count: usize, limit: usize) -> Result<usize, usize>
     ensures { result ≡ run_of (read_by (times count (handler_format limit)) file.now from) }
 {
     let mut at = from;
     let mut left = count;
     while 0 < left {
-        match read_handler(file, at, limit) {
-            Run::End(next) => {
-                at = next;
-            }
-            Run::Wrong(wrong) => {
-                return Run::Wrong(wrong);
-            }
-        }
+        at = read_handler(file, at, limit)?;
         left -= 1;
     }
-    Run::End(at)
+    Ok(at)
 }
 
 // An entry of a local table.
@@ -135,7 +128,13 @@ pub fn read_local(file: &[u8], table: &[usize], at: usize, limit: usize) -> Loca
 }
 
 // So many entries of a local table.
-fn read_locals(file: &[u8], table: &[usize], from: usize, count: usize, limit: usize) -> Run
+fn read_locals(
+    file: &[u8],
+    table: &[usize],
+    from: usize,
+    count: usize,
+    limit: usize,
+) -> Result<usize, usize>
     ensures { result ≡ run_of (read_by (times count (local_format (names_by file.now table.now) limit))
         file.now from) }
 {
@@ -147,49 +146,50 @@ fn read_locals(file: &[u8], table: &[usize], from: usize, count: usize, limit: u
                 at = local.next;
             }
             LocalRead::Wrong(wrong) => {
-                return Run::Wrong(wrong);
+                return Err(wrong);
             }
         }
         left -= 1;
     }
-    Run::End(at)
+    Ok(at)
 }
 
 // A local table, from its count on, that has to fill its attribute.
-fn read_local_table(file: &[u8], table: &[usize], at: usize, limit: usize) -> Run
+fn read_local_table(file: &[u8], table: &[usize], at: usize, limit: usize) -> Result<usize, usize>
     ensures { result ≡ run_of (read_by (local_table_format (names_by file.now table.now) limit) file.now at) }
 {
     let Item::Value(count, from) = read_u2(file, at, limit) else {
-        return Run::Wrong(at);
+        return Err(at);
     };
-    match read_locals(file, table, from, count, limit) {
-        Run::End(next) => {
-            if next < limit {
-                return Run::Wrong(next);
-            }
-            Run::End(next)
-        }
-        Run::Wrong(wrong) => Run::Wrong(wrong),
+    let next = read_locals(file, table, from, count, limit)?;
+    if next < limit {
+        return Err(next);
     }
+    Ok(next)
 }
 
 // An attribute of a Code.
-fn read_code_attribute(file: &[u8], table: &[usize], at: usize, limit: usize) -> Run
+fn read_code_attribute(
+    file: &[u8],
+    table: &[usize],
+    at: usize,
+    limit: usize,
+) -> Result<usize, usize>
     ensures { result ≡ run_of (read_by (code_attribute_format (names_by file.now table.now) limit) file.now at) }
 {
     let Item::Value(name, length_at) = read_u2(file, at, limit) else {
-        return Run::Wrong(at);
+        return Err(at);
     };
     if is_name(file, table, name) {
         if is_named(file, table, name, b"LocalVariableTable") {
             let Window::Inside(start, stop) = read_window(file, length_at, limit) else {
-                return Run::Wrong(length_at);
+                return Err(length_at);
             };
             return read_local_table(file, table, start, stop);
         }
         return pass_over(file, length_at, limit);
     }
-    Run::Wrong(at)
+    Err(at)
 }
 
 // So many attributes of a Code.
@@ -199,55 +199,42 @@ fn read_code_attributes(
     from: usize,
     count: usize,
     limit: usize,
-) -> Run
+) -> Result<usize, usize>
     ensures { result ≡ run_of (read_by (times count (code_attribute_format (names_by file.now table.now) limit))
         file.now from) }
 {
     let mut at = from;
     let mut left = count;
     while 0 < left {
-        match read_code_attribute(file, table, at, limit) {
-            Run::End(next) => {
-                at = next;
-            }
-            Run::Wrong(wrong) => {
-                return Run::Wrong(wrong);
-            }
-        }
+        at = read_code_attribute(file, table, at, limit)?;
         left -= 1;
     }
-    Run::End(at)
+    Ok(at)
 }
 
 // The attributes of a Code, from their count on, which have to fill it.
-pub fn read_code_end(file: &[u8], table: &[usize], at: usize, limit: usize) -> Run
+pub fn read_code_end(file: &[u8], table: &[usize], at: usize, limit: usize) -> Result<usize, usize>
     ensures { result ≡ run_of (read_by (code_end_format (names_by file.now table.now) limit) file.now at) }
 {
     let Item::Value(count, from) = read_u2(file, at, limit) else {
-        return Run::Wrong(at);
+        return Err(at);
     };
-    match read_code_attributes(file, table, from, count, limit) {
-        Run::End(next) => {
-            if next < limit {
-                return Run::Wrong(next);
-            }
-            Run::End(next)
-        }
-        Run::Wrong(wrong) => Run::Wrong(wrong),
+    let next = read_code_attributes(file, table, from, count, limit)?;
+    if next < limit {
+        return Err(next);
     }
+    Ok(next)
 }
 
 // The tables of a Code, behind its instructions.
-pub fn read_tables(file: &[u8], table: &[usize], at: usize, limit: usize) -> Run
+pub fn read_tables(file: &[u8], table: &[usize], at: usize, limit: usize) -> Result<usize, usize>
     ensures { result ≡ run_of (read_by (code_tables_format (names_by file.now table.now) limit) file.now at) }
 {
     let Item::Value(count, from) = read_u2(file, at, limit) else {
-        return Run::Wrong(at);
+        return Err(at);
     };
-    match read_handlers(file, from, count, limit) {
-        Run::End(next) => read_code_end(file, table, next, limit),
-        Run::Wrong(wrong) => Run::Wrong(wrong),
-    }
+    let next = read_handlers(file, from, count, limit)?;
+    read_code_end(file, table, next, limit)
 }
 
 // A Code, from behind its attribute's length to a limit, which is where the attribute ends.
@@ -266,11 +253,11 @@ pub fn read_code(file: &[u8], table: &[usize], at: usize, limit: usize) -> CodeR
     let size = bytes_to(stop, start);
     if is_code_length(size) {
         match read_tables(file, table, stop, limit) {
-            Run::End(next) => {
+            Ok(next) => {
                 let stop = limit;
                 return CodeRead::Read(CodePlace { start, size, stop }, next);
             }
-            Run::Wrong(wrong) => {
+            Err(wrong) => {
                 return CodeRead::Wrong(wrong);
             }
         }

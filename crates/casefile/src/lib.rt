@@ -7,7 +7,6 @@ ghost use Rattle.casefile.specs.Whole.{tables_at, case_of};
 
 use items::{Text, read_text};
 use number::case_number;
-use tables::Run;
 
 // The greatest length of a case.
 const LONGEST: usize = 1048576;
@@ -68,8 +67,8 @@ fn read_tables(bytes: &[u8], at: usize) -> Tables
     };
     let member_run = tables::read_members(bytes, members, member_count);
     let members_end = match member_run {
-        Run::End(end) => end,
-        Run::Wrong(wrong) => {
+        Ok(end) => end,
+        Err(wrong) => {
             return Tables::Wrong(wrong);
         }
     };
@@ -78,8 +77,8 @@ fn read_tables(bytes: &[u8], at: usize) -> Tables
     };
     let record_run = tables::read_records(bytes, records, record_count);
     let records_end = match record_run {
-        Run::End(end) => end,
-        Run::Wrong(wrong) => {
+        Ok(end) => end,
+        Err(wrong) => {
             return Tables::Wrong(wrong);
         }
     };

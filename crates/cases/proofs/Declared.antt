@@ -1,7 +1,7 @@
 -- The reader answers the offset of the first wrong item as it is declared, and no other.
 -- Rests on: what stands is read and what is read stands (Reading, Items).
 -- Assumes nothing.
-use Rattle.std.specs.Prelude.{Option, Some, None}
+use Rattle.std.specs.Prelude.{Option, Some, None, Result, Ok, Err}
 use Rattle.std.proofs.lemmas.Option.{some_pair_parts}
 use Prim.Native.Nat.{ℕ, zero, suc, ◌+◌, ◌≤◌, ◌<◌}
 use native.Mathlib.Omega.{arith}
@@ -24,8 +24,6 @@ use Rattle.tables.specs.declared.LocalRecord.{LocalRecord}
 use Rattle.tables.specs.declared.LocalRecord.TheVariants as local
 use Rattle.tables.specs.declared.Member.{Member}
 use Rattle.tables.specs.declared.Member.TheVariants as member
-use Rattle.tables.specs.declared.Run.{Run}
-use Rattle.tables.specs.declared.Run.TheVariants.{End, Wrong}
 use Rattle.tables.proofs.Runs.{member-then, record-then}
 use Rattle.casefile.specs.Whole.{tables_at, then_tables, places_in, longest, case_of}
 use Rattle.casefile.specs.declared.Case.{Case}
@@ -44,9 +42,9 @@ true_test false t = absurd t
 
 module _ (bytes : List ℕ) (are : AreBytes bytes) where
   -- what a run answers, seen from a place that is reached
-  abbrev Declares : Run → Type 0
-  Declares (End end) = Reached bytes ended end
-  Declares (Wrong offset) = FirstWrong bytes offset
+  abbrev Declares : (Result ℕ ℕ) → Type 0
+  Declares (Ok end) = Reached bytes ended end
+  Declares (Err offset) = FirstWrong bytes offset
 
   declares : (layout : Layout) (at : ℕ) → Reached bytes layout at → Declares (run_by layout bytes at)
   unfolding run_by
@@ -57,7 +55,7 @@ module _ (bytes : List ℕ) (are : AreBytes bytes) where
       by_rule :
           (v next : ℕ) → number_at greatest bytes at ≡ Some (v, next) → (t : Bool) → right v ≡ t →
           ((w after : ℕ) → Reached bytes (following w) after → Declares (run_by (following w) bytes after)) →
-          Declares (pick t (run_by (following v) bytes next) (Wrong at))
+          Declares (pick t (run_by (following v) bytes next) (Err at))
       by_rule v next e true f onward =
           let read = number_stands greatest bytes at v next are e in
           onward v next
@@ -81,7 +79,7 @@ module _ (bytes : List ℕ) (are : AreBytes bytes) where
       by_number :
           (n : Option (ℕ × ℕ)) → number_at greatest bytes at ≡ n →
           ((w after : ℕ) → Reached bytes (following w) after → Declares (run_by (following w) bytes after)) →
-          Declares (then_number n (Wrong at) (λ v next. pick (right v) (run_by (following v) bytes next) (Wrong at)))
+          Declares (then_number n (Err at) (λ v next. pick (right v) (run_by (following v) bytes next) (Err at)))
       by_number (Some (v, next)) e onward = by_rule v next e (right v) refl onward
       by_number None e onward =
           record {
@@ -99,7 +97,7 @@ module _ (bytes : List ℕ) (are : AreBytes bytes) where
       by_text :
           (t : Text) → text_at bytes at ≡ t →
           ((size after : ℕ) → Reached bytes (following size) after → Declares (run_by (following size) bytes after)) →
-          Declares (then_text t (Wrong at) (λ begin size. run_by (following size) bytes (begin + size)))
+          Declares (then_text t (Err at) (λ begin size. run_by (following size) bytes (begin + size)))
       by_text (Place begin size) e onward =
           let read = text_stands bytes at begin size are e in
           onward size (begin + size)
@@ -120,7 +118,7 @@ module _ (bytes : List ℕ) (are : AreBytes bytes) where
     where
       by_test :
           (t : Bool) → ltb at (length bytes) ≡ t → (Reached bytes following at → Declares (run_by following bytes at)) →
-          Declares (pick t (run_by following bytes at) (End at))
+          Declares (pick t (run_by following bytes at) (Ok at))
       by_test true e onward = onward (goes_on reached (ltb-true at (length bytes) e))
       by_test false e onward = ends_here reached (ltb-false at (length bytes) e)
 
@@ -140,27 +138,27 @@ module _ (bytes : List ℕ) (are : AreBytes bytes) where
 pub members-then :
     (count last : ℕ) (following : Layout) (bytes : List ℕ) (at : ℕ) →
     run_by (members_then count last following) bytes at
-    ≡ then_run (run_by (members_then count last ended) bytes at) (λ wrong. Wrong wrong) (λ end. run_by following bytes end)
+    ≡ then_run (run_by (members_then count last ended) bytes at) (λ wrong. Err wrong) (λ end. run_by following bytes end)
 unfolding members_then run_by
 members-then zero last following bytes at = refl
 members-then (suc count) last following bytes at =
     member-then bytes last at (λ index. members_then count index following)
     ∙ of (member_at bytes last at) (λ index next. members-then count index following bytes next)
-    ∙ ap (λ (r : Run). then_run r (λ wrong. Wrong wrong) (λ end. run_by following bytes end))
+    ∙ ap (λ (r : Result ℕ ℕ). then_run r (λ wrong. Err wrong) (λ end. run_by following bytes end))
     (sym (member-then bytes last at (λ index. members_then count index ended)))
   where
-    onward : ℕ → Run
+    onward : ℕ → Result ℕ ℕ
     onward end = run_by following bytes end
 
     of :
         (m : Member) →
         ((index next : ℕ) →
         run_by (members_then count index following) bytes next
-        ≡ then_run (run_by (members_then count index ended) bytes next) (λ wrong. Wrong wrong) onward) →
-        then_member m (λ wrong. Wrong wrong) (λ place. run_by (members_then count place.index following) bytes place.next)
+        ≡ then_run (run_by (members_then count index ended) bytes next) (λ wrong. Err wrong) onward) →
+        then_member m (λ wrong. Err wrong) (λ place. run_by (members_then count place.index following) bytes place.next)
         ≡ then_run
-        (then_member m (λ wrong. Wrong wrong) (λ place. run_by (members_then count place.index ended) bytes place.next))
-        (λ wrong. Wrong wrong) onward
+        (then_member m (λ wrong. Err wrong) (λ place. run_by (members_then count place.index ended) bytes place.next))
+        (λ wrong. Err wrong) onward
     of (member.Read place) rest = rest place.index place.next
     of (member.Wrong place) rest = refl
 
@@ -168,26 +166,26 @@ members-then (suc count) last following bytes at =
 pub records-then :
     (count : ℕ) (following : Layout) (bytes : List ℕ) (at : ℕ) →
     run_by (records_then count following) bytes at
-    ≡ then_run (run_by (records_then count ended) bytes at) (λ wrong. Wrong wrong) (λ end. run_by following bytes end)
+    ≡ then_run (run_by (records_then count ended) bytes at) (λ wrong. Err wrong) (λ end. run_by following bytes end)
 unfolding records_then run_by
 records-then zero following bytes at = refl
 records-then (suc count) following bytes at =
     record-then bytes at (records_then count following)
     ∙ of (record_at bytes at) (λ next. records-then count following bytes next)
-    ∙ ap (λ (r : Run). then_run r (λ wrong. Wrong wrong) (λ end. run_by following bytes end))
+    ∙ ap (λ (r : Result ℕ ℕ). then_run r (λ wrong. Err wrong) (λ end. run_by following bytes end))
     (sym (record-then bytes at (records_then count ended)))
   where
-    onward : ℕ → Run
+    onward : ℕ → Result ℕ ℕ
     onward end = run_by following bytes end
 
     of :
         (r : LocalRecord) →
         ((next : ℕ) →
         run_by (records_then count following) bytes next
-        ≡ then_run (run_by (records_then count ended) bytes next) (λ wrong. Wrong wrong) onward) →
-        then_record r (λ wrong. Wrong wrong) (λ place. run_by (records_then count following) bytes place.next)
-        ≡ then_run (then_record r (λ wrong. Wrong wrong) (λ place. run_by (records_then count ended) bytes place.next))
-        (λ wrong. Wrong wrong) onward
+        ≡ then_run (run_by (records_then count ended) bytes next) (λ wrong. Err wrong) onward) →
+        then_record r (λ wrong. Err wrong) (λ place. run_by (records_then count following) bytes place.next)
+        ≡ then_run (then_record r (λ wrong. Err wrong) (λ place. run_by (records_then count ended) bytes place.next))
+        (λ wrong. Err wrong) onward
     of (local.Read place) rest = rest place.next
     of (local.Wrong place) rest = refl
 
@@ -198,9 +196,9 @@ pub data Verdict : Type 0 where
   wrong_at : ℕ → Verdict
 
 -- the verdict on a run that ends, where bytes may be in excess
-abbrev pub on_run : List ℕ → Run → Verdict
-on_run bytes (End end) = pick (ltb end (length bytes)) (wrong_at end) all_right
-on_run bytes (Wrong offset) = wrong_at offset
+abbrev pub on_run : List ℕ → Result ℕ ℕ → Verdict
+on_run bytes (Ok end) = pick (ltb end (length bytes)) (wrong_at end) all_right
+on_run bytes (Err offset) = wrong_at offset
 
 abbrev pub on_case : Case → Verdict
 on_case (answer.Parts places) = all_right
@@ -212,7 +210,7 @@ module _ (following : Layout) (bytes : List ℕ) (at : ℕ) where
   abbrev TablesThen : Type 0
   TablesThen =
       run_by (tables_then following) bytes at
-      ≡ then_tables (tables_at bytes at) (λ wrong. Wrong wrong) (λ places. run_by following bytes places.end)
+      ≡ then_tables (tables_at bytes at) (λ wrong. Err wrong) (λ places. run_by following bytes places.end)
 
   abbrev after_members : Layout
   after_members = number any (λ records. records_then records following)
@@ -223,16 +221,16 @@ module _ (following : Layout) (bytes : List ℕ) (at : ℕ) where
     where
       by_records :
           (count members end record_count records : ℕ) → number_at greatest bytes at ≡ Some (count, members) →
-          run_by (members_then count 0 ended) bytes members ≡ End end → number_at greatest bytes end ≡ Some (record_count, records) →
-          (r : Run) → run_by (records_then record_count ended) bytes records ≡ r → TablesThen
-      by_records count members end record_count records e f g (End last) h =
+          run_by (members_then count 0 ended) bytes members ≡ Ok end → number_at greatest bytes end ≡ Some (record_count, records) →
+          (r : Result ℕ ℕ) → run_by (records_then record_count ended) bytes records ≡ r → TablesThen
+      by_records count members end record_count records e f g (Ok last) h =
           rw (e, members-then count 0 after_members bytes members, f, g, records-then record_count following bytes records, h)
-      by_records count members end record_count records e f g (Wrong offset) h =
+      by_records count members end record_count records e f g (Err offset) h =
           rw (e, members-then count 0 after_members bytes members, f, g, records-then record_count following bytes records, h)
 
       by_record_count :
           (count members end : ℕ) → number_at greatest bytes at ≡ Some (count, members) →
-          run_by (members_then count 0 ended) bytes members ≡ End end →
+          run_by (members_then count 0 ended) bytes members ≡ Ok end →
           (n : Option (ℕ × ℕ)) → number_at greatest bytes end ≡ n → TablesThen
       by_record_count count members end e f (Some (record_count, records)) g =
           by_records count members end record_count records e f g (run_by (records_then record_count ended) bytes records) refl
@@ -240,9 +238,9 @@ module _ (following : Layout) (bytes : List ℕ) (at : ℕ) where
 
       by_members :
           (count members : ℕ) → number_at greatest bytes at ≡ Some (count, members) →
-          (r : Run) → run_by (members_then count 0 ended) bytes members ≡ r → TablesThen
-      by_members count members e (End end) f = by_record_count count members end e f (number_at greatest bytes end) refl
-      by_members count members e (Wrong offset) f = rw (e, members-then count 0 after_members bytes members, f)
+          (r : Result ℕ ℕ) → run_by (members_then count 0 ended) bytes members ≡ r → TablesThen
+      by_members count members e (Ok end) f = by_record_count count members end e f (number_at greatest bytes end) refl
+      by_members count members e (Err offset) f = rw (e, members-then count 0 after_members bytes members, f)
 
       by_count : (n : Option (ℕ × ℕ)) → number_at greatest bytes at ≡ n → TablesThen
       by_count (Some (count, members)) e = by_members count members e (run_by (members_then count 0 ended) bytes members) refl
@@ -322,9 +320,9 @@ module _ (bytes : List ℕ) where
   wrong_case answer.TooLong offset e = let y : ◌≡◌ {A = ℕ} 0 1 = cc in absurd (omega arith)
 
   first_wrong_verdict :
-      (are : AreBytes bytes) → (r : Run) → run_by case_layout bytes 0 ≡ r → Declares bytes are r → (offset : ℕ) → on_run bytes r ≡ wrong_at offset →
+      (are : AreBytes bytes) → (r : Result ℕ ℕ) → run_by case_layout bytes 0 ≡ r → Declares bytes are r → (offset : ℕ) → on_run bytes r ≡ wrong_at offset →
       FirstWrong bytes offset
-  first_wrong_verdict are (End end) e reached offset q = by_test (ltb end (length bytes)) refl q
+  first_wrong_verdict are (Ok end) e reached offset q = by_test (ltb end (length bytes)) refl q
     where
       by_test :
           (t : Bool) → ltb end (length bytes) ≡ t → pick t (wrong_at end) all_right ≡ wrong_at offset → FirstWrong bytes offset
@@ -333,7 +331,7 @@ module _ (bytes : List ℕ) where
           subst (λ (o : ℕ). FirstWrong bytes o) same
           (record { due = ended; reached = reached; wrong = ltb-true end (length bytes) f })
       by_test false f g = let y : ◌≡◌ {A = ℕ} 0 1 = cc in absurd (omega arith)
-  first_wrong_verdict are (Wrong place) e first offset q =
+  first_wrong_verdict are (Err place) e first offset q =
       let same : place ≡ offset = cc in
       subst (λ (o : ℕ). FirstWrong bytes o) same first
 
@@ -351,7 +349,7 @@ module _ (bytes : List ℕ) where
     where
       by_rule :
           (v next : ℕ) → number_at greatest bytes at ≡ Some (v, next) → (t : Bool) → right v ≡ t →
-          on_run bytes (pick t (run_by (following v) bytes next) (Wrong at)) ≡ wrong_at at
+          on_run bytes (pick t (run_by (following v) bytes next) (Err at)) ≡ wrong_at at
       by_rule v next e true f =
           let read = number_stands greatest bytes at v next are e in
           absurd (nothing v read.2 (subst T (sym f) tt) read.0)
@@ -359,7 +357,7 @@ module _ (bytes : List ℕ) where
 
       by_number :
           (n : Option (ℕ × ℕ)) → number_at greatest bytes at ≡ n →
-          on_run bytes (then_number n (Wrong at) (λ v next. pick (right v) (run_by (following v) bytes next) (Wrong at))) ≡ wrong_at at
+          on_run bytes (then_number n (Err at) (λ v next. pick (right v) (run_by (following v) bytes next) (Err at))) ≡ wrong_at at
       by_number (Some (v, next)) e = by_rule v next e (right v) refl
       by_number None e = refl
   stops are (may_end following) at nothing = absurd nothing
@@ -367,7 +365,7 @@ module _ (bytes : List ℕ) where
     where
       by_text :
           (t : Text) → text_at bytes at ≡ t →
-          on_run bytes (then_text t (Wrong at) (λ begin size. run_by (following size) bytes (begin + size))) ≡ wrong_at at
+          on_run bytes (then_text t (Err at) (λ begin size. run_by (following size) bytes (begin + size))) ≡ wrong_at at
       by_text (Place begin size) e =
           let read = text_stands bytes at begin size are e in
           absurd (nothing _ read.fits read.stands)
@@ -391,13 +389,13 @@ module _ (bytes : List ℕ) where
   too-long long = rw (lt-ltb longest (length bytes) long)
 
   -- a run of the layout always has a verdict
-  is_read : (r : Run) → on_run bytes r ≡ not_read → ⊥
-  is_read (End end) e = by_test (ltb end (length bytes)) e
+  is_read : (r : Result ℕ ℕ) → on_run bytes r ≡ not_read → ⊥
+  is_read (Ok end) e = by_test (ltb end (length bytes)) e
     where
       by_test : (t : Bool) → pick t (wrong_at end) all_right ≡ not_read → ⊥
       by_test true f = let y : ◌≡◌ {A = ℕ} 0 1 = cc in omega arith
       by_test false f = let y : ◌≡◌ {A = ℕ} 0 1 = cc in omega arith
-  is_read (Wrong offset) e = let y : ◌≡◌ {A = ℕ} 0 1 = cc in omega arith
+  is_read (Err offset) e = let y : ◌≡◌ {A = ℕ} 0 1 = cc in omega arith
 
   not-too-long : case_of bytes ≡ answer.TooLong → longest < length bytes
   unfolding case_of

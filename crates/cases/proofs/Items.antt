@@ -1,7 +1,7 @@
 -- A run by a layout, one item at a time: forward where the item stands, and back where the run came to its end.
 -- Rests on: what stands is read and what is read stands (Reading).
 -- Assumes nothing.
-use Rattle.std.specs.Prelude.{Option, Some, None}
+use Rattle.std.specs.Prelude.{Option, Some, None, Ok, Err}
 use Prim.Native.Nat.{ℕ, zero, suc, ◌+◌, ◌≤◌, ◌<◌}
 use native.Mathlib.Omega.{arith}
 use mathlib.Core.Path.{◌≡◌, refl, ◌∙◌, sym, ap}
@@ -17,7 +17,6 @@ use Rattle.items.specs.Text.{text_bytes, text_at, then_text}
 use Rattle.items.specs.declared.Text.{Text}
 use Rattle.items.specs.declared.Text.TheVariants.{Place, NotText}
 use Rattle.tables.specs.Layout.{Layout, number, sized, may_end, text, ended, any, three_texts, member_then, members_then, record_then, records_then, run_by}
-use Rattle.tables.specs.declared.Run.TheVariants.{End, Wrong}
 use Rattle.cases.specs.LaidOut.{Member, texts_bytes, member_bytes, members_bytes, RightMember, RightMembers, none, more, Local, record_bytes, records_bytes, RightLocal, RightLocals}
 use Rattle.cases.specs.LaidOut as laid
 use Rattle.cases.specs.Standing.{Stands}
@@ -143,17 +142,17 @@ module _ (bytes : List ℕ) (are : AreBytes bytes) where
     pub fits : v ≤ greatest
     pub passes : right v ≡ true
     pub stands : Stands bytes at (number_bytes v)
-    pub onward : run_by (following v) bytes (at + length (number_bytes v)) ≡ End end
+    pub onward : run_by (following v) bytes (at + length (number_bytes v)) ≡ Ok end
 
   pub number_back :
-      (right : ℕ → Bool) (following : ℕ → Layout) (at end : ℕ) → run_by (number right following) bytes at ≡ End end →
+      (right : ℕ → Bool) (following : ℕ → Layout) (at end : ℕ) → run_by (number right following) bytes at ≡ Ok end →
       NumberBefore right following at end
   unfolding run_by
   number_back right following at end e = by_number (number_at greatest bytes at) refl e
     where
       by_rule :
           (v next : ℕ) → number_at greatest bytes at ≡ Some (v, next) → (t : Bool) → right v ≡ t →
-          pick t (run_by (following v) bytes next) (Wrong at) ≡ End end → NumberBefore right following at end
+          pick t (run_by (following v) bytes next) (Err at) ≡ Ok end → NumberBefore right following at end
       by_rule v next f true g q =
           let read = number_stands greatest bytes at v next are f in
           record {
@@ -167,7 +166,7 @@ module _ (bytes : List ℕ) (are : AreBytes bytes) where
 
       by_number :
           (n : Option (ℕ × ℕ)) → number_at greatest bytes at ≡ n →
-          then_number n (Wrong at) (λ v next. pick (right v) (run_by (following v) bytes next) (Wrong at)) ≡ End end →
+          then_number n (Err at) (λ v next. pick (right v) (run_by (following v) bytes next) (Err at)) ≡ Ok end →
           NumberBefore right following at end
       by_number (Some (v, next)) f q = by_rule v next f (right v) refl q
       by_number None f q = let y : ◌≡◌ {A = ℕ} 0 1 = cc in absurd (omega arith)
@@ -177,15 +176,15 @@ module _ (bytes : List ℕ) (are : AreBytes bytes) where
     pub t : List ℕ
     pub fits : length t ≤ greatest
     pub stands : Stands bytes at (text_bytes t)
-    pub onward : run_by following bytes (at + length (text_bytes t)) ≡ End end
+    pub onward : run_by following bytes (at + length (text_bytes t)) ≡ Ok end
 
-  pub text_back : (following : Layout) (at end : ℕ) → run_by (text following) bytes at ≡ End end → TextBefore following at end
+  pub text_back : (following : Layout) (at end : ℕ) → run_by (text following) bytes at ≡ Ok end → TextBefore following at end
   unfolding run_by
   text_back following at end e = by_text (text_at bytes at) refl e
     where
       by_text :
           (t : Text) → text_at bytes at ≡ t →
-          then_text t (Wrong at) (λ begin size. run_by following bytes (begin + size)) ≡ End end → TextBefore following at end
+          then_text t (Err at) (λ begin size. run_by following bytes (begin + size)) ≡ Ok end → TextBefore following at end
       by_text (Place begin size) f q =
           let read = text_stands bytes at begin size are f in
           record {
@@ -202,7 +201,7 @@ module _ (bytes : List ℕ) (are : AreBytes bytes) where
     above : last < member.index
     right : RightMember member
     stands : Stands bytes at (member_bytes member)
-    onward : run_by (following member.index) bytes (at + length (member_bytes member)) ≡ End end
+    onward : run_by (following member.index) bytes (at + length (member_bytes member)) ≡ Ok end
 
   -- three texts that a run passed
   record TextsBefore (following : Layout) (at end : ℕ) : Type 0 where
@@ -210,7 +209,7 @@ module _ (bytes : List ℕ) (are : AreBytes bytes) where
     name : TextBefore (text following) (at + length (text_bytes class.t)) end
     descriptor : TextBefore following (at + length (text_bytes class.t) + length (text_bytes name.t)) end
 
-  texts_back : (following : Layout) (at end : ℕ) → run_by (three_texts following) bytes at ≡ End end → TextsBefore following at end
+  texts_back : (following : Layout) (at end : ℕ) → run_by (three_texts following) bytes at ≡ Ok end → TextsBefore following at end
   texts_back following at end e = of_class (text_back (text (text following)) at end e)
     where
       of_name :
@@ -227,7 +226,7 @@ module _ (bytes : List ℕ) (are : AreBytes bytes) where
       of_class class = of_name class (text_back (text following) (at + length (text_bytes class.t)) end class.onward)
 
   member_back :
-      (last : ℕ) (following : ℕ → Layout) (at end : ℕ) → run_by (member_then last following) bytes at ≡ End end →
+      (last : ℕ) (following : ℕ → Layout) (at end : ℕ) → run_by (member_then last following) bytes at ≡ Ok end →
       MemberBefore last following at end
   unfolding member_bytes texts_bytes
   member_back last following at end e =
@@ -300,7 +299,7 @@ module _ (bytes : List ℕ) (are : AreBytes bytes) where
     pub right : RightMembers last members
     pub counted : length members ≡ count
     pub stands : Stands bytes at (members_bytes members)
-    pub onward : run_by following bytes (at + length (members_bytes members)) ≡ End end
+    pub onward : run_by following bytes (at + length (members_bytes members)) ≡ Ok end
 
   -- one more
   one_more_member :
@@ -322,7 +321,7 @@ module _ (bytes : List ℕ) (are : AreBytes bytes) where
       }
 
   pub members_back :
-      (count last : ℕ) (following : Layout) (at end : ℕ) → run_by (members_then count last following) bytes at ≡ End end →
+      (count last : ℕ) (following : Layout) (at end : ℕ) → run_by (members_then count last following) bytes at ≡ Ok end →
       MembersBefore count last following at end
   unfolding members_then members_bytes
   members_back zero last following at end e =
@@ -343,10 +342,10 @@ module _ (bytes : List ℕ) (are : AreBytes bytes) where
     local : Local
     right : RightLocal local
     stands : Stands bytes at (record_bytes local)
-    onward : run_by following bytes (at + length (record_bytes local)) ≡ End end
+    onward : run_by following bytes (at + length (record_bytes local)) ≡ Ok end
 
   record_back :
-      (following : Layout) (at end : ℕ) → run_by (record_then following) bytes at ≡ End end → RecordBefore following at end
+      (following : Layout) (at end : ℕ) → run_by (record_then following) bytes at ≡ Ok end → RecordBefore following at end
   unfolding record_bytes
   record_back following at end e =
       of_start (number_back any (λ a. number any (λ b. number any (λ c. text following))) at end e)
@@ -403,7 +402,7 @@ module _ (bytes : List ℕ) (are : AreBytes bytes) where
     pub right : RightLocals locals
     pub counted : length locals ≡ count
     pub stands : Stands bytes at (records_bytes locals)
-    pub onward : run_by following bytes (at + length (records_bytes locals)) ≡ End end
+    pub onward : run_by following bytes (at + length (records_bytes locals)) ≡ Ok end
 
   -- one more
   one_more_record :
@@ -423,7 +422,7 @@ module _ (bytes : List ℕ) (are : AreBytes bytes) where
       }
 
   pub records_back :
-      (count : ℕ) (following : Layout) (at end : ℕ) → run_by (records_then count following) bytes at ≡ End end →
+      (count : ℕ) (following : Layout) (at end : ℕ) → run_by (records_then count following) bytes at ≡ Ok end →
       RecordsBefore count following at end
   unfolding records_then records_bytes
   records_back zero following at end e =

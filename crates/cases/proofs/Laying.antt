@@ -1,6 +1,7 @@
 -- Reading what parts lay out to gives these parts, and whatever is accepted is what its parts lay out to.
 -- Rests on: runs one item at a time (Items), the reader as a run of the layout (Declared).
 -- Assumes nothing.
+use Rattle.std.specs.Prelude.{Result, Ok, Err}
 use Prim.Native.Nat.{ℕ, ◌+◌, ◌-◌, ◌≤◌}
 use native.Mathlib.Omega.{arith}
 use mathlib.Core.Path.{◌≡◌, refl, ◌∙◌, sym, ap, ap₂, subst}
@@ -14,8 +15,6 @@ use Rattle.basics.specs.Choice.{pick}
 use Rattle.number.specs.Number.{greatest, number_bytes}
 use Rattle.items.specs.Text.{text_bytes}
 use Rattle.tables.specs.Layout.{Layout, number, text, ended, any, members_then, records_then, tables_then, case_layout, run_by}
-use Rattle.tables.specs.declared.Run.{Run}
-use Rattle.tables.specs.declared.Run.TheVariants.{End, Wrong}
 use Rattle.casefile.specs.Parts.{Parts, case_bytes, parts_of}
 use Rattle.casefile.specs.Whole.{tables_at, places_in, longest, case_of}
 use Rattle.casefile.specs.declared.Case.TheVariants as answer
@@ -33,23 +32,23 @@ use Rattle.cases.proofs.Reading.{first_stands, second_stands, both_stand, standi
 -- a run of members, read where it stands
 member-run :
     (bytes : List ℕ) (at count : ℕ) (run : List ℕ) → MemberRun count run → Stands bytes at run →
-    run_by (members_then count 0 ended) bytes at ≡ End (at + length run)
+    run_by (members_then count 0 ended) bytes at ≡ Ok (at + length run)
 unfolding run_by
 member-run bytes at count run is stands =
     let own = subst (λ (r : List ℕ). Stands bytes at r) is.bytes stands in
     ap (λ (n : ℕ). run_by (members_then n 0 ended) bytes at) (sym is.counted)
     ∙ members_on bytes at 0 ended is.members is.right own
-    ∙ ap (λ (r : List ℕ). End (at + length r)) (sym is.bytes)
+    ∙ ap (λ (r : List ℕ). Ok (at + length r)) (sym is.bytes)
 
 record-run :
     (bytes : List ℕ) (at count : ℕ) (run : List ℕ) → RecordRun count run → Stands bytes at run →
-    run_by (records_then count ended) bytes at ≡ End (at + length run)
+    run_by (records_then count ended) bytes at ≡ Ok (at + length run)
 unfolding run_by
 record-run bytes at count run is stands =
     let own = subst (λ (r : List ℕ). Stands bytes at r) is.bytes stands in
     ap (λ (n : ℕ). run_by (records_then n ended) bytes at) (sym is.counted)
     ∙ records_on bytes at ended is.locals is.right own
-    ∙ ap (λ (r : List ℕ). End (at + length r)) (sym is.bytes)
+    ∙ ap (λ (r : List ℕ). Ok (at + length r)) (sym is.bytes)
 
 -- the two runs with their counts, from a place on
 module _ (bytes : List ℕ) (at : ℕ) (p : Parts) (right : LaidOut p) where
@@ -258,10 +257,10 @@ module _ (bytes : List ℕ) (are : AreBytes bytes) where
     record_run : RecordRun record_count records
     stands : Stands bytes at (number_bytes member_count ++ (members ++ (number_bytes record_count ++ records)))
     onward :
-        run_by following bytes (at + length (number_bytes member_count ++ (members ++ (number_bytes record_count ++ records)))) ≡ End end
+        run_by following bytes (at + length (number_bytes member_count ++ (members ++ (number_bytes record_count ++ records)))) ≡ Ok end
 
   tables_back :
-      (following : Layout) (at end : ℕ) → run_by (tables_then following) bytes at ≡ End end → TablesBefore following at end
+      (following : Layout) (at end : ℕ) → run_by (tables_then following) bytes at ≡ Ok end → TablesBefore following at end
   unfolding tables_then
   tables_back following at end e = of_count (number_back bytes are any (λ n. members_then n 0 after_members) at end e)
     where
@@ -392,11 +391,11 @@ module _ (bytes : List ℕ) (are : AreBytes bytes) where
         is = same;
       }
     where
-      ends_at : (a b : ℕ) → End a ≡ End b → a ≡ b
+      ends_at : (a b : ℕ) → ◌≡◌ {A = Result ℕ ℕ} (Ok a) (Ok b) → a ≡ b
       ends_at a b q = cc
 
   -- a run of the whole layout that leaves no byte
-  laid_by_run : (end : ℕ) → run_by case_layout bytes 0 ≡ End end → length bytes ≤ end → length bytes ≤ longest → Laid
+  laid_by_run : (end : ℕ) → run_by case_layout bytes 0 ≡ Ok end → length bytes ≤ end → length bytes ≤ longest → Laid
   unfolding case_layout
   laid_by_run end e whole short = of_flags (number_back bytes are any (λ a. number any (λ b. text (text (tables_then ended)))) 0 end e)
     where
@@ -424,13 +423,13 @@ module _ (bytes : List ℕ) (are : AreBytes bytes) where
       of_flags : NumberBefore bytes are any (λ a. number any (λ b. text (text (tables_then ended)))) 0 end → Laid
       of_flags flags = of_fault flags (number_back bytes are any (λ b. text (text (tables_then ended))) _ end flags.onward)
 
-  laid : (r : Run) → run_by case_layout bytes 0 ≡ r → on_run bytes r ≡ all_right → length bytes ≤ longest → Laid
-  laid (End end) e right short = by_test (ltb end (length bytes)) refl right
+  laid : (r : Result ℕ ℕ) → run_by case_layout bytes 0 ≡ r → on_run bytes r ≡ all_right → length bytes ≤ longest → Laid
+  laid (Ok end) e right short = by_test (ltb end (length bytes)) refl right
     where
       by_test : (t : Bool) → ltb end (length bytes) ≡ t → pick t (wrong_at end) all_right ≡ all_right → Laid
       by_test true f q = let y : ◌≡◌ {A = ℕ} 0 1 = cc in absurd (omega arith)
       by_test false f q = laid_by_run end e (ltb-false end (length bytes) f) short
-  laid (Wrong offset) e right short = let y : ◌≡◌ {A = ℕ} 0 1 = cc in absurd (omega arith)
+  laid (Err offset) e right short = let y : ◌≡◌ {A = ℕ} 0 1 = cc in absurd (omega arith)
 
 -- the places answered are those of these parts
 settled :

@@ -1,4 +1,5 @@
 // A class file (JVMS 4.1), judged whole by the format. A lent table takes the places of the constant pool's entries.
+// A run of items answers the place after its last item, or the place of the first wrong one.
 #![tactic(auto)]
 
 ghost use Rattle.std.specs.Prelude.{◌≡◌, ◌≤◌, length};
@@ -13,7 +14,6 @@ use attributes::{read_attributes, read_fields, read_interfaces};
 use format::{Item, read_u2, read_u4};
 use methods::read_methods;
 use pool::read_pool;
-use tables::Run;
 
 // The first four bytes of every class file.
 const MAGIC: usize = 0xcafebabe;
@@ -70,8 +70,8 @@ fn read_start(file: &[u8], table: &mut [usize]) -> StartRead
         };
         if 0 < count {
             return match read_pool(file, count, table) {
-                Run::End(next) => StartRead::Read { major, next },
-                Run::Wrong(wrong) => StartRead::Wrong(wrong),
+                Ok(next) => StartRead::Read { major, next },
+                Err(wrong) => StartRead::Wrong(wrong),
             };
         }
         return StartRead::Wrong(count_at);
@@ -80,50 +80,46 @@ fn read_start(file: &[u8], table: &mut [usize]) -> StartRead
 }
 
 // What stands between the constant pool and the fields.
-fn read_head(file: &[u8], at: usize, limit: usize) -> Run
+fn read_head(file: &[u8], at: usize, limit: usize) -> Result<usize, usize>
     ensures { result ≡ run_of (read_by (head_format limit) file.now at) }
 {
     let Item::Value(_, this_at) = read_u2(file, at, limit) else {
-        return Run::Wrong(at);
+        return Err(at);
     };
     let Item::Value(_, super_at) = read_u2(file, this_at, limit) else {
-        return Run::Wrong(this_at);
+        return Err(this_at);
     };
     let Item::Value(_, count_at) = read_u2(file, super_at, limit) else {
-        return Run::Wrong(super_at);
+        return Err(super_at);
     };
     let Item::Value(count, from) = read_u2(file, count_at, limit) else {
-        return Run::Wrong(count_at);
+        return Err(count_at);
     };
     read_interfaces(file, from, count, limit)
 }
 
 // The fields, from their count on.
-fn read_field_table(file: &[u8], table: &[usize], at: usize, limit: usize) -> Run
+fn read_field_table(file: &[u8], table: &[usize], at: usize, limit: usize) -> Result<usize, usize>
     ensures { result ≡ run_of (read_by (fields_format (names_by file.now table.now) limit) file.now at) }
 {
     let Item::Value(count, from) = read_u2(file, at, limit) else {
-        return Run::Wrong(at);
+        return Err(at);
     };
     read_fields(file, table, from, count, limit)
 }
 
 // The attributes of the class, from their count on, behind which nothing stands.
-fn read_end(file: &[u8], table: &[usize], at: usize, limit: usize) -> Run
+fn read_end(file: &[u8], table: &[usize], at: usize, limit: usize) -> Result<usize, usize>
     ensures { result ≡ run_of (read_by (end_format (names_by file.now table.now) limit) file.now at) }
 {
     let Item::Value(count, from) = read_u2(file, at, limit) else {
-        return Run::Wrong(at);
+        return Err(at);
     };
-    match read_attributes(file, table, from, count, limit) {
-        Run::End(next) => {
-            if next < limit {
-                return Run::Wrong(next);
-            }
-            Run::End(next)
-        }
-        Run::Wrong(wrong) => Run::Wrong(wrong),
+    let next = read_attributes(file, table, from, count, limit)?;
+    if next < limit {
+        return Err(next);
     }
+    Ok(next)
 }
 
 // The methods, from their count on, and what stands behind them.
@@ -134,11 +130,11 @@ fn read_method_table(file: &[u8], table: &[usize], at: usize, limit: usize) -> M
         return MethodsRead::Wrong(at);
     };
     match read_methods(file, table, from, count, limit) {
-        Run::End(next) => match read_end(file, table, next, limit) {
-            Run::End(_) => MethodsRead::Read { from, count },
-            Run::Wrong(wrong) => MethodsRead::Wrong(wrong),
+        Ok(next) => match read_end(file, table, next, limit) {
+            Ok(_) => MethodsRead::Read { from, count },
+            Err(wrong) => MethodsRead::Wrong(wrong),
         },
-        Run::Wrong(wrong) => MethodsRead::Wrong(wrong),
+        Err(wrong) => MethodsRead::Wrong(wrong),
     }
 }
 
@@ -147,11 +143,11 @@ fn read_rest(file: &[u8], table: &[usize], at: usize, limit: usize) -> MethodsRe
     ensures { result ≡ methods_told (read_by (rest_format (names_by file.now table.now) limit) file.now at) }
 {
     match read_head(file, at, limit) {
-        Run::End(fields_at) => match read_field_table(file, table, fields_at, limit) {
-            Run::End(methods_at) => read_method_table(file, table, methods_at, limit),
-            Run::Wrong(wrong) => MethodsRead::Wrong(wrong),
+        Ok(fields_at) => match read_field_table(file, table, fields_at, limit) {
+            Ok(methods_at) => read_method_table(file, table, methods_at, limit),
+            Err(wrong) => MethodsRead::Wrong(wrong),
         },
-        Run::Wrong(wrong) => MethodsRead::Wrong(wrong),
+        Err(wrong) => MethodsRead::Wrong(wrong),
     }
 }
 

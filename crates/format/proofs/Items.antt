@@ -1,6 +1,8 @@
 -- Reading item by item: what is told of a reading, by the answers of its items' readers. Each rule goes from what is due to what is due
 -- behind it, so that the proof of a reader is the list of its items.
 -- Assumes nothing.
+use Rattle.std.specs.Prelude.{Result, Ok, Err, IsErrAnd}
+use Rattle.std.proofs.lemmas.Result.{err_from_is_err_and}
 use Prim.Native.Nat.{ℕ, zero, suc, ◌+◌, ◌-◌, ◌≤◌, ◌<◌}
 use native.Mathlib.Omega.{arith}
 use mathlib.Core.Path.{◌≡◌, refl, ◌∙◌, sym, ap, subst}
@@ -10,7 +12,6 @@ use lib.Dec.{leb}
 use borrow.Author.Tests.{le-leb, lt-leb, leb-true, leb-false}
 use Rattle.basics.specs.Bytes.{u16_at, u32_at}
 use Rattle.basics.specs.Choice.{pick, both}
-use Rattle.tables.specs.declared.Run.TheVariants.{End, Wrong}
 use Rattle.format.specs.Format.{Format, number, text, window as windowed, full, here, done, and_then, times, each, number_at, bytes_at, Reading, right, wrong, then_read, go_on, window_right, read_by}
 use Rattle.format.specs.Items.{item_at, window_at, run_of}
 use Rattle.format.specs.declared.Item.{Item}
@@ -18,6 +19,10 @@ use Rattle.format.specs.declared.Item.TheVariants.{Value, Cut}
 use Rattle.format.specs.declared.Window.{Window}
 use Rattle.format.specs.declared.Window.TheVariants as window
 use Rattle.format.proofs.Reading.{read_then}
+
+-- what a `?` answers is the wrong place that it met
+pub passed_on : {T E : Type 0} {r : Result T E} {place : E} → IsErrAnd r (λ met. met ≡ place) → r ≡ Err place
+passed_on {r} h = let p = err_from_is_err_and r h in p.1 ∙ ap Err p.2
 
 -- ---- numbers of two and of four bytes
 
@@ -209,11 +214,11 @@ all_done = record { is = refl }
 -- ---- one format behind another
 
 -- a run that ended has read something, and one that did not has a first wrong item
-pub ended : {A : Type 0} (r : Reading A) {next : ℕ} → run_of r ≡ End next → (a : A) × (r ≡ right a next)
+pub ended : {A : Type 0} (r : Reading A) {next : ℕ} → run_of r ≡ Ok next → (a : A) × (r ≡ right a next)
 ended (right a end) {next} e = let same : end ≡ next = cc in (a, ap (right a) same)
 ended (wrong place) e = let z : ◌≡◌ {A = ℕ} 0 1 = cc in absurd (omega arith)
 
-pub failed : {A : Type 0} (r : Reading A) {place : ℕ} → run_of r ≡ Wrong place → r ≡ wrong place
+pub failed : {A : Type 0} (r : Reading A) {place : ℕ} → run_of r ≡ Err place → r ≡ wrong place
 failed (right a end) e = let z : ◌≡◌ {A = ℕ} 0 1 = cc in absurd (omega arith)
 failed (wrong offset) {place} e = let same : offset ≡ place = cc in ap wrong same
 
@@ -227,11 +232,11 @@ module _ {A B C : Type 0} {tell : Reading B → C} (format : Format A) (rest : A
   then_failed is = record { is = ap tell (read_then rest file format at) ∙ ap (λ (r : Reading A). tell (then_read r (λ a next. read_by (rest a) file next))) is }
 
   pub then_wrong :
-      {place : ℕ} → run_of (read_by format file at) ≡ Wrong place → Tells tell (and_then format rest) file at (tell (wrong place))
+      {place : ℕ} → run_of (read_by format file at) ≡ Err place → Tells tell (and_then format rest) file at (tell (wrong place))
   then_wrong is = then_failed (failed (read_by format file at) is)
 
   pub then_right :
-      {next : ℕ} {answer : C} → run_of (read_by format file at) ≡ End next → ((a : A) → Tells tell (rest a) file next answer) →
+      {next : ℕ} {answer : C} → run_of (read_by format file at) ≡ Ok next → ((a : A) → Tells tell (rest a) file next answer) →
       Tells tell (and_then format rest) file at answer
   then_right is onward = let read = ended (read_by format file at) is in then-read read.1 (onward read.0)
 
@@ -251,13 +256,13 @@ then_done {A} format make {file} {at} =
 
 module _ {A : Type 0} (one : Format A) {file : List ℕ} {at : ℕ} where
   pub turn_wrong :
-      (left : ℕ) {place : ℕ} → 0 < left → run_of (read_by one file at) ≡ Wrong place → Tells run_of (times left one) file at (Wrong place)
+      (left : ℕ) {place : ℕ} → 0 < left → run_of (read_by one file at) ≡ Err place → Tells run_of (times left one) file at (Err place)
   unfolding times
   turn_wrong zero some is = absurd (omega arith)
   turn_wrong (suc n) some is = then_wrong one (λ a. and_then (times n one) (λ more. done (a ∷ more))) is
 
   pub turn_right :
-      (left : ℕ) {next : ℕ} → 0 < left → run_of (read_by one file at) ≡ End next →
+      (left : ℕ) {next : ℕ} → 0 < left → run_of (read_by one file at) ≡ Ok next →
       Tells run_of (times left one) file at (run_of (read_by (times (left - 1) one) file next))
   unfolding times read_by
   turn_right zero some is = absurd (omega arith)
@@ -265,7 +270,7 @@ module _ {A : Type 0} (one : Format A) {file : List ℕ} {at : ℕ} where
       let less : suc n - 1 ≡ n = omega arith in
       rw less (then_right one (λ a. and_then (times n one) (λ more. done (a ∷ more))) is (λ a. then_done (times n one) (λ more. a ∷ more)))
 
-  pub none_left : (left : ℕ) → left ≤ 0 → Tells run_of (times left one) file at (End at)
+  pub none_left : (left : ℕ) → left ≤ 0 → Tells run_of (times left one) file at (Ok at)
   unfolding times read_by
   none_left zero none = record { is = refl }
   none_left (suc n) none = absurd (omega arith)

@@ -1,9 +1,7 @@
 -- What a reader of one item answers, and what a reader of many tells of a reading.
 -- Assumes nothing.
-use Rattle.std.specs.Prelude.{ℕ, ◌+◌, List, leb}
+use Rattle.std.specs.Prelude.{ℕ, ◌+◌, List, leb, Result, Ok, Err}
 use Rattle.basics.specs.Choice.{pick}
-use Rattle.tables.specs.declared.Run.{Run}
-use Rattle.tables.specs.declared.Run.TheVariants.{End, Wrong}
 use Rattle.format.specs.Format.{number_at, window_right, Reading, right, wrong}
 use Rattle.format.specs.declared.Item.{Item}
 use Rattle.format.specs.declared.Item.TheVariants.{Value, Cut}
@@ -20,6 +18,6 @@ window_at width limit file at =
     pick (window_right width limit file at) (window.Inside (at + width) (at + width + number_at width file at)) window.Cut
 
 -- where it ended, or the place of the first wrong item
-abbrev pub run_of : {A : Type 0} → Reading A → Run
-run_of (right a end) = End end
-run_of (wrong offset) = Wrong offset
+abbrev pub run_of : {A : Type 0} → Reading A → Result ℕ ℕ
+run_of (right a end) = Ok end
+run_of (wrong offset) = Err offset

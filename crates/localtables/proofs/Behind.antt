@@ -1,5 +1,6 @@
 -- What is right behind an item of a format that is right, by the answer of the item's reader.
 -- Assumes nothing.
+use Rattle.std.specs.Prelude.{Ok, Err}
 use Prim.Native.Nat.{ℕ, zero, suc, ◌+◌, ◌-◌, ◌≤◌, ◌<◌}
 use native.Mathlib.Omega.{arith}
 use mathlib.Core.Path.{◌≡◌, refl, ◌∙◌, sym}
@@ -9,7 +10,6 @@ use lib.Dec.{leb}
 use borrow.Author.Tests.{leb-true}
 use Rattle.basics.specs.Bytes.{AreBytes}
 use Rattle.basics.proofs.Bytes.{u16_below}
-use Rattle.tables.specs.declared.Run.TheVariants as run
 use Rattle.format.specs.Format.{Format, number, window as windowed, full, done, and_then, times, number_at, Reading, right, wrong, go_on, read_by}
 use Rattle.format.specs.Items.{item_at, window_at, run_of}
 use Rattle.format.specs.declared.Item.TheVariants.{Value, Cut}
@@ -38,7 +38,7 @@ never e e' = let z : ◌≡◌ {A = ℕ} 0 1 = cc in absurd (omega arith)
 
 -- a run that ended
 pub run_right :
-    {A : Type 0} (due : Format A) (file : List ℕ) (at : ℕ) {stop : ℕ} → run_of (read_by due file at) ≡ run.End stop →
+    {A : Type 0} (due : Format A) (file : List ℕ) (at : ℕ) {stop : ℕ} → run_of (read_by due file at) ≡ Ok stop →
     (a : A) × Right due file at a stop
 run_right due file at is = let read = ended (read_by due file at) is in (read.0, record { was = read.1 })
 
@@ -72,10 +72,10 @@ module _ {A : Type 0} {file : List ℕ} {width limit at : ℕ} {a : A} {end : �
 module _
     {A : Type 0} {made : A} {limit : ℕ} {file : List ℕ} {at : ℕ} {a : A} {end : ℕ}
     (due : Right (passed_over limit made) file at a end) where
-  pub passed_unwrong : {B : Type 0} {place : ℕ} → run_of (read_by (passed_over limit (tt {0})) file at) ≡ run.Wrong place → B
+  pub passed_unwrong : {B : Type 0} {place : ℕ} → run_of (read_by (passed_over limit (tt {0})) file at) ≡ Err place → B
   passed_unwrong is = never due.was (passed_wrong {tell = itself} made is).is
 
-  pub passed_behind : {next : ℕ} → run_of (read_by (passed_over limit (tt {0})) file at) ≡ run.End next → (made ≡ a) × (next ≡ end)
+  pub passed_behind : {next : ℕ} → run_of (read_by (passed_over limit (tt {0})) file at) ≡ Ok next → (made ≡ a) × (next ≡ end)
   passed_behind {next} is =
       let both : right made next ≡ right a end = sym (passed_right {tell = itself} made is).is ∙ due.was in
       let same : made ≡ a = cc in
@@ -113,10 +113,10 @@ module _ {A B : Type 0} (format : Format A) (rest : A → Format B) {file : List
       let all = then_was file at format rest due.was in
       (all.0, all.1, record { was = all.2 }, record { was = all.3 })
 
-  pub then_unwrong : {C : Type 0} {place : ℕ} → run_of (read_by format file at) ≡ run.Wrong place → C
+  pub then_unwrong : {C : Type 0} {place : ℕ} → run_of (read_by format file at) ≡ Err place → C
   then_unwrong is = never due.was (then_wrong {tell = itself} format rest is).is
 
-  pub then_behind : {next : ℕ} → run_of (read_by format file at) ≡ run.End next → (a : A) × Right (rest a) file next b end
+  pub then_behind : {next : ℕ} → run_of (read_by format file at) ≡ Ok next → (a : A) × Right (rest a) file next b end
   then_behind is =
       let read = ended (read_by format file at) is in
       (read.0, record { was = sym (then-read {tell = itself} format rest read.1 (record { is = refl })).is ∙ due.was })

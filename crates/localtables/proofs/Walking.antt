@@ -1,5 +1,6 @@
 -- What stands behind an attribute's name; the records of a local table fill its attribute, and the attributes of a Code hold its records.
 -- Assumes nothing.
+use Rattle.std.specs.Prelude.{Ok}
 use Prim.Native.Nat.{ℕ, zero, suc, ◌+◌, ◌≤◌}
 use native.Mathlib.Omega.{arith}
 use mathlib.Core.Path.{◌≡◌, ◌∙◌, sym, ap, subst}
@@ -7,7 +8,6 @@ use mathlib.Core.Bool.{Bool, true, false}
 use mathlib.Core.List.{List, []}
 use Rattle.basics.specs.Ascii.{ascii}
 use Rattle.basics.specs.Choice.{pick}
-use Rattle.tables.specs.declared.Run.TheVariants as run
 use Rattle.format.specs.Format.{window, full, done, and_then, times, right, read_by}
 use Rattle.format.specs.Items.{item_at, run_of}
 use Rattle.format.specs.declared.Item.TheVariants.{Value}
@@ -88,7 +88,7 @@ module _ (names : ℕ → Name) (limit : ℕ) (file : List ℕ) where
   -- behind the handlers stand the attributes
   pub tables_behind :
       (at : ℕ) {tables : Tables} {end count from next : ℕ} → Right (code_tables_format names limit) file at tables end →
-      item_at 2 limit file at ≡ Value count from → run_of (read_by (times count (handler_format limit)) file from) ≡ run.End next →
+      item_at 2 limit file at ≡ Value count from → run_of (read_by (times count (handler_format limit)) file from) ≡ Ok next →
       (stop : ℕ) × Right (code_end_format names limit) file next tables.locals stop
   unfolding code_tables_format
   tables_behind at {tables} {end} {count} {from} {next} due counted is =

@@ -14,7 +14,6 @@ use bodies::{LocalRead, read_handlers, read_local, read_tables};
 use entries::is_named;
 use format::{Item, Window, read_u2, read_window};
 use search::covers_load;
-use tables::Run;
 
 // The local record that names a local at an instruction.
 #[derive(Clone, Copy)]
@@ -98,7 +97,7 @@ fn records_at(file: &[u8], table: &[usize], at: usize, limit: usize) -> RecordsP
         };
         return RecordsPlace { from, count, stop };
     }
-    let Run::End(stop) = pass_over(file, length_at, limit) else {
+    let Ok(stop) = pass_over(file, length_at, limit) else {
         return none;
     };
     RecordsPlace {
@@ -143,13 +142,13 @@ fn attributes_at(file: &[u8], table: &[usize], at: usize, limit: usize) -> Attri
     ensures { AttributesAt (names_by file.now table.now) limit file.now at result }
 {
     let none = AttributesPlace { from: at, count: 0 };
-    let Run::End(_) = read_tables(file, table, at, limit) else {
+    let Ok(_) = read_tables(file, table, at, limit) else {
         return none;
     };
     let Item::Value(handlers, handlers_at) = read_u2(file, at, limit) else {
         return none;
     };
-    let Run::End(count_at) = read_handlers(file, handlers_at, handlers, limit) else {
+    let Ok(count_at) = read_handlers(file, handlers_at, handlers, limit) else {
         return none;
     };
     let Item::Value(count, from) = read_u2(file, count_at, limit) else {

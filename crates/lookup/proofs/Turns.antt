@@ -1,6 +1,6 @@
 -- A lookup, one member further; and that it finds nothing at or below the last index, since indexes rise.
 -- Assumes nothing.
-use Rattle.std.specs.Prelude.{Option, Some, None}
+use Rattle.std.specs.Prelude.{Option, Some, None, Result, Ok, Err}
 use Prim.Native.Nat.{ℕ, zero, suc, ◌-◌, ◌≤◌, ◌<◌}
 use native.Mathlib.Nat.{not-suc-le-zero}
 use native.Mathlib.Numerals.{sub-one}
@@ -17,8 +17,6 @@ use Rattle.tables.specs.Member.{member_at, then_member}
 use Rattle.tables.specs.declared.Member.{Member}
 use Rattle.tables.specs.declared.Member.TheVariants as members
 use Rattle.tables.specs.declared.MemberPlace.{MemberPlace}
-use Rattle.tables.specs.declared.Run.{Run}
-use Rattle.tables.specs.declared.Run.TheVariants.{End, Wrong}
 use Rattle.lookup.specs.Lookup.{texts_of, member_found}
 
 pub found_turn :
@@ -41,7 +39,7 @@ pub member_above : (bytes : List ℕ) (last at : ℕ) → Above last (member_at 
 unfolding member_at
 member_above bytes last at = by_index (number_at greatest bytes at)
   where
-    texted : ℕ → ℕ → ℕ → Run → Member
+    texted : ℕ → ℕ → ℕ → Result ℕ ℕ → Member
     texted index kind texts r =
         then_run r (λ place. members.Wrong place) (λ next.
         members.Read (record { index = index; kind = kind; texts = texts; next = next }))
@@ -51,9 +49,9 @@ member_above bytes last at = by_index (number_at greatest bytes at)
         then_number n (members.Wrong kind_at) (λ kind texts.
         pick (leb kind 1) (texted index kind texts (run_by (three_texts ended) bytes texts)) (members.Wrong kind_at))
 
-    by_texts : (index kind texts : ℕ) → last < index → (r : Run) → Above last (texted index kind texts r)
-    by_texts index kind texts above (End next) = above
-    by_texts index kind texts above (Wrong place) = tt
+    by_texts : (index kind texts : ℕ) → last < index → (r : Result ℕ ℕ) → Above last (texted index kind texts r)
+    by_texts index kind texts above (Ok next) = above
+    by_texts index kind texts above (Err place) = tt
 
     by_kind_rule :
         (index kind_at kind texts : ℕ) → last < index → (t : Bool) →

@@ -1,11 +1,11 @@
 -- What was read, by what the readers of methods tell; and the names that an attribute of a method can have.
 -- Assumes nothing.
+use Rattle.std.specs.Prelude.{Ok, Err}
 use Prim.Native.Nat.{ℕ}
 use native.Mathlib.Omega.{arith}
 use mathlib.Core.Path.{◌≡◌, ap}
 use mathlib.Core.Bool.{true, false}
 use Rattle.basics.specs.Ascii.{ascii}
-use Rattle.tables.specs.declared.Run.TheVariants as run
 use Rattle.format.specs.Format.{Reading, right, wrong}
 use Rattle.format.specs.Items.{run_of}
 use Rattle.classformat.specs.Contents.{Name, is_named, Body, bodiless, coded, Method}
@@ -31,15 +31,15 @@ pub body_wrong : (r : Reading Body) {place : ℕ} → body_told r ≡ body.Wrong
 body_wrong (right found end) e = let z : ◌≡◌ {A = ℕ} 0 1 = cc in absurd (omega arith)
 body_wrong (wrong offset) {place} e = let same : offset ≡ place = cc in ap wrong same
 
-pub method_ended : (r : Reading Method) {place : MethodPlace} → method_told r ≡ method.Read place → run_of r ≡ run.End place.next
+pub method_ended : (r : Reading Method) {place : MethodPlace} → method_told r ≡ method.Read place → run_of r ≡ Ok place.next
 method_ended (right m end) {place} e =
     let there : record { flags = m.flags; name = m.name; descriptor = m.descriptor; body = body_place m.body; next = end } ≡ place = cc in
-    ap (λ (p : MethodPlace). run.End p.next) there
+    ap (λ (p : MethodPlace). Ok p.next) there
 method_ended (wrong offset) e = let z : ◌≡◌ {A = ℕ} 0 1 = cc in absurd (omega arith)
 
-pub method_wrong : (r : Reading Method) {place : ℕ} → method_told r ≡ method.Wrong place → run_of r ≡ run.Wrong place
+pub method_wrong : (r : Reading Method) {place : ℕ} → method_told r ≡ method.Wrong place → run_of r ≡ Err place
 method_wrong (right m end) e = let z : ◌≡◌ {A = ℕ} 0 1 = cc in absurd (omega arith)
-method_wrong (wrong offset) {place} e = let same : offset ≡ place = cc in ap run.Wrong same
+method_wrong (wrong offset) {place} e = let same : offset ≡ place = cc in ap Err same
 
 -- ---- names of attributes
 

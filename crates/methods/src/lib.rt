@@ -1,5 +1,6 @@
 // The methods of a class file (JVMS 4.6), judged by the format. Every function takes any file, any table of the pool's places, any place and
 // any limit.
+// A run of items answers the place after its last item, or the place of the first wrong one.
 #![tactic(auto)]
 
 ghost use Rattle.std.specs.Prelude.{◌≡◌};
@@ -14,7 +15,6 @@ use attributes::pass_over;
 use bodies::{CodePlace, CodeRead, read_code};
 use entries::{is_name, is_named};
 use format::{Item, Window, read_u2, read_window};
-use tables::Run;
 
 // The code of a method, where it has one.
 #[derive(Clone, Copy)]
@@ -69,8 +69,8 @@ fn pass_attribute(file: &[u8], at: usize, limit: usize, body: BodyPlace) -> Body
         result ≡ body_told (read_by (passed_over limit before) file.now at) }
 {
     match pass_over(file, at, limit) {
-        Run::End(next) => BodyRead::Read(body, next),
-        Run::Wrong(wrong) => BodyRead::Wrong(wrong),
+        Ok(next) => BodyRead::Read(body, next),
+        Err(wrong) => BodyRead::Wrong(wrong),
     }
 }
 
@@ -164,7 +164,13 @@ pub fn read_method(file: &[u8], table: &[usize], at: usize, limit: usize) -> Met
 }
 
 // So many methods.
-pub fn read_methods(file: &[u8], table: &[usize], from: usize, count: usize, limit: usize) -> Run
+pub fn read_methods(
+    file: &[u8],
+    table: &[usize],
+    from: usize,
+    count: usize,
+    limit: usize,
+) -> Result<usize, usize>
     ensures { result ≡ run_of (read_by (times count (method_format (names_by file.now table.now) limit))
         file.now from) }
 {
@@ -176,12 +182,12 @@ pub fn read_methods(file: &[u8], table: &[usize], from: usize, count: usize, lim
                 at = method.next;
             }
             MethodRead::Wrong(wrong) => {
-                return Run::Wrong(wrong);
+                return Err(wrong);
             }
         }
         left -= 1;
     }
-    Run::End(at)
+    Ok(at)
 }
 
 // The method behind so many others.
@@ -196,7 +202,7 @@ pub fn find_method(
         file.now from) }
 {
     match read_methods(file, table, from, place, limit) {
-        Run::End(at) => read_method(file, table, at, limit),
-        Run::Wrong(wrong) => MethodRead::Wrong(wrong),
+        Ok(at) => read_method(file, table, at, limit),
+        Err(wrong) => MethodRead::Wrong(wrong),
     }
 }

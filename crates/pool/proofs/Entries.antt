@@ -1,5 +1,6 @@
 -- One entry, and the pool number by number.
 -- Assumes nothing.
+use Rattle.std.specs.Prelude.{Result, Ok, Err}
 use Prim.Native.Nat.{ℕ, zero, suc, ◌+◌, ◌≤◌, ◌<◌}
 use native.Mathlib.Omega.{arith}
 use mathlib.Core.Path.{◌≡◌, refl, ◌∙◌, ap}
@@ -9,8 +10,6 @@ use borrow.Author.Tests.{le-leb, lt-leb}
 use Rattle.basics.specs.Bytes.{byte_at, u16_at}
 use Rattle.basics.specs.Choice.{pick}
 use Rattle.utf8.specs.Turning.{is_modified}
-use Rattle.tables.specs.declared.Run.{Run}
-use Rattle.tables.specs.declared.Run.TheVariants.{End, Wrong}
 use Rattle.format.specs.Format.{Format, done, and_then, number_at, bytes_at, Reading, right, wrong, then_read, number_right, read_by}
 use Rattle.format.specs.Items.{run_of}
 use Rattle.format.proofs.Items.{two_bytes}
@@ -22,20 +21,20 @@ use Rattle.classformat.specs.declared.Entry.TheVariants.{Nothing}
 use Rattle.pool.specs.Pool.{tagged_format}
 
 -- what follows a run, or its first wrong item
-abbrev pub then_run : Run → (ℕ → Run) → Run
-then_run (End next) following = following next
-then_run (Wrong place) following = Wrong place
+abbrev pub then_run : (Result ℕ ℕ) → (ℕ → Result ℕ ℕ) → Result ℕ ℕ
+then_run (Ok next) following = following next
+then_run (Err place) following = Err place
 
 -- ---- a text
 
 module _ (file : List ℕ) (limit at : ℕ) where
-  pub cut_text : limit < at + 2 + u16_at file at → run_of (read_by (entry_format limit 1) file at) ≡ Wrong at
+  pub cut_text : limit < at + 2 + u16_at file at → run_of (read_by (entry_format limit 1) file at) ≡ Err at
   unfolding read_by entry_format
   cut_text cut = rw (two_bytes file at, lt-leb (at + 2 + u16_at file at) limit cut)
 
   pub judged_text :
       (b : Bool) → at + 2 + u16_at file at ≤ limit → is_modified (bytes_at file (at + 2) (u16_at file at)) ≡ b →
-      run_of (read_by (entry_format limit 1) file at) ≡ pick b (End (at + 2 + u16_at file at)) (Wrong at)
+      run_of (read_by (entry_format limit 1) file at) ≡ pick b (Ok (at + 2 + u16_at file at)) (Err at)
   unfolding read_by entry_format
   judged_text true fits is = rw (two_bytes file at, le-leb (at + 2 + u16_at file at) limit fits, is)
   judged_text false fits is = rw (two_bytes file at, le-leb (at + 2 + u16_at file at) limit fits, is)
@@ -121,6 +120,6 @@ module _ (file : List ℕ) (limit : ℕ) where
       (at left : ℕ) → run_of (read_by (pool_format limit (suc left) true) file at) ≡ run_of (read_by (pool_format limit left false) file at)
   wide_turn at left = ap run_of (behind-wide at left) ∙ run_more left false Nothing at
 
-  pub none_left : (at : ℕ) (behind_wide : Bool) → run_of (read_by (pool_format limit zero behind_wide) file at) ≡ End at
+  pub none_left : (at : ℕ) (behind_wide : Bool) → run_of (read_by (pool_format limit zero behind_wide) file at) ≡ Ok at
   unfolding read_by pool_format
   none_left at behind_wide = refl

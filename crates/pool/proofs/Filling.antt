@@ -1,5 +1,6 @@
 -- The table while it is filled: what it becomes by the places that are left is what it becomes by all of them.
 -- Assumes nothing.
+use Rattle.std.specs.Prelude.{Result, Ok, Err}
 use Prim.Native.Nat.{ℕ, zero, suc, ◌+◌, ◌-◌, ◌≤◌, ◌<◌}
 use native.Mathlib.Omega.{arith}
 use mathlib.Core.Path.{◌≡◌, refl, ◌∙◌, sym, ap}
@@ -8,8 +9,6 @@ use mathlib.Core.List.{List, [], ◌∷◌}
 use lib.ListN.{length, get_or, set, replicate, length-set, length-replicate}
 use lib.Seq.{get_or-set_other, set-get_or}
 use Rattle.basics.specs.Bytes.{byte_at}
-use Rattle.tables.specs.declared.Run.{Run}
-use Rattle.tables.specs.declared.Run.TheVariants.{End, Wrong}
 use Rattle.format.specs.Format.{read_by}
 use Rattle.format.specs.Items.{run_of}
 use Rattle.classformat.specs.ClassFile.{wide, pool_format}
@@ -92,26 +91,26 @@ module _ (file : List ℕ) (count room : ℕ) where
 
   module _ (table : List ℕ) (at number left : ℕ) where
     places_more :
-        (next : ℕ) → run_of (read_by (tagged_format (length file) left) file at) ≡ End next →
+        (next : ℕ) → run_of (read_by (tagged_format (length file) left) file at) ≡ Ok next →
         places_by file (suc left) false at ≡ at ∷ places_by file left (wide (byte_at file at)) next
     unfolding places_by
-    places_more next is = ap (λ (r : Run). place_then at r (λ next. places_by file left (wide (byte_at file at)) next)) is
+    places_more next is = ap (λ (r : Result ℕ ℕ). place_then at r (λ next. places_by file left (wide (byte_at file at)) next)) is
 
     places_end :
-        (place : ℕ) → run_of (read_by (tagged_format (length file) left) file at) ≡ Wrong place →
+        (place : ℕ) → run_of (read_by (tagged_format (length file) left) file at) ≡ Err place →
         places_by file (suc left) false at ≡ []
     unfolding places_by
-    places_end place is = ap (λ (r : Run). place_then at r (λ next. places_by file left (wide (byte_at file at)) next)) is
+    places_end place is = ap (λ (r : Result ℕ ℕ). place_then at r (λ next. places_by file left (wide (byte_at file at)) next)) is
 
     -- an entry is read
     pub reads_entry :
-        (next : ℕ) → run_of (read_by (tagged_format (length file) left) file at) ≡ End next → Filling table at number (suc left) false →
+        (next : ℕ) → run_of (read_by (tagged_format (length file) left) file at) ≡ Ok next → Filling table at number (suc left) false →
         Filling (set table number at) next (suc number) left (wide (byte_at file at))
     reads_entry next is so =
         record {
           answer =
               so.answer ∙ entry_turn file (length file) at left
-              ∙ ap (λ (r : Run). then_run r (λ n. run_of (read_by (pool_format (length file) left (wide (byte_at file at))) file n))) is;
+              ∙ ap (λ (r : Result ℕ ℕ). then_run r (λ n. run_of (read_by (pool_format (length file) left (wide (byte_at file at))) file n))) is;
           keeps = ap (λ (places : List ℕ). written table number places) (sym (places_more next is)) ∙ so.keeps;
           clean = λ i from. get_or-set_other table number i at 0 (λ e. omega (arith, e, from)) ∙ so.clean i (omega (arith, from));
           long = length-set table number at ∙ so.long;
@@ -133,17 +132,17 @@ module _ (file : List ℕ) (count room : ℕ) where
 
     -- an entry is wrong
     pub stops :
-        (place : ℕ) → run_of (read_by (tagged_format (length file) left) file at) ≡ Wrong place → Filling table at number (suc left) false →
-        (Wrong place ≡ run_of (read_by (pool_format (length file) (count - 1) false) file 10)) × (table ≡ placed room (places_in file count))
+        (place : ℕ) → run_of (read_by (tagged_format (length file) left) file at) ≡ Err place → Filling table at number (suc left) false →
+        (Err place ≡ run_of (read_by (pool_format (length file) (count - 1) false) file 10)) × (table ≡ placed room (places_in file count))
     stops place is so = (
       sym (so.answer ∙ entry_turn file (length file) at left
-          ∙ ap (λ (r : Run). then_run r (λ n. run_of (read_by (pool_format (length file) left (wide (byte_at file at))) file n))) is),
+          ∙ ap (λ (r : Result ℕ ℕ). then_run r (λ n. run_of (read_by (pool_format (length file) left (wide (byte_at file at))) file n))) is),
       ap (λ (places : List ℕ). written table number places) (sym (places_end place is)) ∙ so.keeps,
     )
 
   -- no number is left
   pub ends :
       (table : List ℕ) (at number : ℕ) (behind_wide : Bool) → Filling table at number zero behind_wide →
-      (End at ≡ run_of (read_by (pool_format (length file) (count - 1) false) file 10)) × (table ≡ placed room (places_in file count))
+      (Ok at ≡ run_of (read_by (pool_format (length file) (count - 1) false) file 10)) × (table ≡ placed room (places_in file count))
   unfolding places_by
   ends table at number behind_wide so = (sym (so.answer ∙ none_left file (length file) at behind_wide), so.keeps)

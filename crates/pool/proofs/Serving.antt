@@ -1,6 +1,7 @@
 -- The table leads to each entry of the pool: an entry that the format reads is the one that is found by its place, and the places are those
 -- of the entries, number by number.
 -- Assumes nothing.
+use Rattle.std.specs.Prelude.{Result, Ok, Err}
 use Prim.Native.Nat.{ℕ, zero, suc, ◌+◌, ◌-◌, ◌≤◌, ◌<◌}
 use native.Mathlib.Omega.{arith}
 use mathlib.Core.Path.{◌≡◌, refl, ◌∙◌, sym, ap, subst}
@@ -12,8 +13,6 @@ use borrow.Author.Tests.{lt-ltb, ne_eqb, leb-true, leb-false}
 use Rattle.basics.specs.Bytes.{byte_at, u16_at}
 use Rattle.basics.specs.Choice.{pick, one_of}
 use Rattle.utf8.specs.Turning.{is_modified}
-use Rattle.tables.specs.declared.Run.{Run}
-use Rattle.tables.specs.declared.Run.TheVariants.{End, Wrong}
 use Rattle.format.specs.Format.{Format, number, text, done, number_at, number_right, text_right, Reading, right, wrong, then_read, go_on, read_by}
 use Rattle.format.specs.Items.{run_of}
 use Rattle.format.proofs.Items.{two_bytes}
@@ -210,10 +209,10 @@ module _ (file : List ℕ) where
       by (run_of (read_by (tagged_format (length file) left) file at)) (λ next. places_few left (wide (byte_at file at)) next)
     where
       by :
-          (r : Run) → ((next : ℕ) → length (places_by file left (wide (byte_at file at)) next) ≤ left) →
+          (r : Result ℕ ℕ) → ((next : ℕ) → length (places_by file left (wide (byte_at file at)) next) ≤ left) →
           length (place_then at r (λ next. places_by file left (wide (byte_at file at)) next)) ≤ suc left
-      by (End next) few = let l = few next in omega (arith, l)
-      by (Wrong place) few = omega arith
+      by (Ok next) few = let l = few next in omega (arith, l)
+      by (Err place) few = omega arith
 
 -- ---- by a table that has room for them
 

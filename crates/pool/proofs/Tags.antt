@@ -1,5 +1,6 @@
 -- What a tag says: which tags there are, and the widths of the numbers behind each, against the format.
 -- Assumes nothing.
+use Rattle.std.specs.Prelude.{Ok, Err}
 use Prim.Native.Nat.{ℕ, zero, suc, ◌+◌, ◌<◌}
 use native.Mathlib.Nat.{add-zero, not-suc-le-zero, le_of_suc-le-suc, eq-or-lt_of_le}
 use mathlib.Core.Path.{◌≡◌, refl, ◌∙◌, sym, subst}
@@ -9,7 +10,6 @@ use mathlib.Core.List.{List, [], ◌∷◌}
 use lib.Dec.{T, eqb, leb, ltb, ltb→lt}
 use Rattle.basics.specs.Choice.{pick, both, alike, one_of}
 use Rattle.basics.proofs.Every.{every_at, alike_is}
-use Rattle.tables.specs.declared.Run.TheVariants.{End, Wrong}
 use Rattle.format.specs.Format.{number, done, number_at, right, go_on, read_by}
 use Rattle.format.specs.Items.{run_of}
 use Rattle.classformat.specs.ClassFile.{any, wide, right_tag, entry_format}
@@ -51,11 +51,11 @@ right_is_small left tag below is =
 module _ (limit : ℕ) (file : List ℕ) where
   last_number :
       (at w : ℕ) (made : ℕ → Entry) →
-      run_of (read_by (number w limit any (λ x. done (made x))) file at) ≡ pick (leb (at + w) limit) (End (at + w)) (Wrong at)
+      run_of (read_by (number w limit any (λ x. done (made x))) file at) ≡ pick (leb (at + w) limit) (Ok (at + w)) (Err at)
   unfolding read_by
   last_number at w made = by (leb (at + w) limit) (made (number_at w file at))
     where
-      by : (s : Bool) (entry : Entry) → run_of (go_on (both s true) at (at + w) (λ end. right entry end)) ≡ pick s (End (at + w)) (Wrong at)
+      by : (s : Bool) (entry : Entry) → run_of (go_on (both s true) at (at + w) (λ end. right entry end)) ≡ pick s (Ok (at + w)) (Err at)
       by true entry = refl
       by false entry = refl
 
@@ -63,7 +63,7 @@ module _ (limit : ℕ) (file : List ℕ) where
   unfolding passed_by
   one_number at w made = rw (add-zero (at + w)) (last_number at w made ∙ by (leb (at + w) limit))
     where
-      by : (s : Bool) → pick s (End (at + w)) (Wrong at) ≡ pick s (pick s (End (at + w)) (Wrong (at + w))) (Wrong at)
+      by : (s : Bool) → pick s (Ok (at + w)) (Err at) ≡ pick s (pick s (Ok (at + w)) (Err (at + w))) (Err at)
       by true = refl
       by false = refl
 
@@ -76,7 +76,7 @@ module _ (limit : ℕ) (file : List ℕ) where
       by :
           (s : Bool) (with : ℕ → Entry) →
           run_of (go_on (both s true) at (at + w) (λ next. read_by (number v limit any (λ y. done (with y))) file next))
-          ≡ pick s (pick (leb (at + w + v) limit) (End (at + w + v)) (Wrong (at + w))) (Wrong at)
+          ≡ pick s (pick (leb (at + w + v) limit) (Ok (at + w + v)) (Err (at + w))) (Err at)
       by true with = last_number (at + w) v with
       by false with = refl
 

@@ -1,11 +1,9 @@
 -- The places of the constant pool's entries (JVMS 4.4), told by the format; what the reader's parts answer; and what the table of places is
 -- for.
 -- Assumes nothing.
-use Rattle.std.specs.Prelude.{ℕ, zero, suc, ◌+◌, ◌-◌, ◌≤◌, Bool, true, false, List, [], ◌∷◌, ◌≡◌, eqb, leb, length}
+use Rattle.std.specs.Prelude.{ℕ, zero, suc, ◌+◌, ◌-◌, ◌≤◌, Bool, true, false, List, [], ◌∷◌, ◌≡◌, eqb, leb, length, Result, Ok, Err}
 use Rattle.basics.specs.Bytes.{byte_at}
 use Rattle.basics.specs.Choice.{pick}
-use Rattle.tables.specs.declared.Run.{Run}
-use Rattle.tables.specs.declared.Run.TheVariants.{End, Wrong}
 use Rattle.format.specs.Format.{Format, read_by, right}
 use Rattle.format.specs.Items.{run_of}
 use Rattle.classformat.specs.ClassFile.{u1, wide, right_tag, entry_format, pool_format}
@@ -30,15 +28,15 @@ second_width tag =
     pick (leb tag 4) 0 (pick (leb tag 6) 4 (pick (leb tag 8) 0 (pick (leb tag 15) 2 (pick (leb tag 16) 0 (pick (leb tag 18) 2 0)))))
 
 -- two numbers, of which the first that is cut is wrong
-unfoldable pub passed_by : ℕ → ℕ → ℕ → ℕ → Run
+unfoldable pub passed_by : ℕ → ℕ → ℕ → ℕ → Result ℕ ℕ
 passed_by limit at first second =
-    pick (leb (at + first) limit) (pick (leb (at + first + second) limit) (End (at + first + second)) (Wrong (at + first))) (Wrong at)
+    pick (leb (at + first) limit) (pick (leb (at + first + second) limit) (Ok (at + first + second)) (Err (at + first))) (Err at)
 
 -- ---- the places
 
-abbrev pub place_then : ℕ → Run → (ℕ → List ℕ) → List ℕ
-place_then at (End next) following = at ∷ following next
-place_then at (Wrong place) following = []
+abbrev pub place_then : ℕ → Result ℕ ℕ → (ℕ → List ℕ) → List ℕ
+place_then at (Ok next) following = at ∷ following next
+place_then at (Err place) following = []
 
 -- of so many pool numbers: the place of each entry up to the first wrong one, 0 for the number behind a long or a double
 unfoldable pub places_by : List ℕ → ℕ → Bool → ℕ → List ℕ

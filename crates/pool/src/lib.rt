@@ -1,5 +1,6 @@
 // The constant pool of a class file (JVMS 4.4): every entry is judged, and a lent table takes the places of the entries. The reader takes any
 // file, any count and any table.
+// A run of items answers the place after its last item, or the place of the first wrong one.
 #![tactic(auto)]
 
 ghost use Rattle.std.specs.Prelude.{◌≡◌, false, ◌-◌, ◌≤◌, length, set, replicate};
@@ -9,7 +10,6 @@ ghost use Rattle.classformat.specs.ClassFile.{wide, right_tag, entry_format, poo
 ghost use Rattle.pool.specs.Pool.{first_width, second_width, passed_by, tagged_format, placed, places_in};
 
 use reads::{byte_at, read_u16};
-use tables::Run;
 use utf8::is_modified;
 
 // How many bytes the first number has that stands behind a tag other than a Utf8's.
@@ -83,46 +83,46 @@ fn is_right_tag(tag: u8, left: usize) -> bool
 }
 
 // Two numbers of so many bytes, before a limit.
-fn pass_numbers(limit: usize, at: usize, first: usize, second: usize) -> Run
+fn pass_numbers(limit: usize, at: usize, first: usize, second: usize) -> Result<usize, usize>
     requires { at ≤ limit }
     ensures { result ≡ passed_by limit at first second }
 {
     if limit - at < first {
-        return Run::Wrong(at);
+        return Err(at);
     }
     let behind = at + first;
     if limit - behind < second {
-        return Run::Wrong(behind);
+        return Err(behind);
     }
-    Run::End(behind + second)
+    Ok(behind + second)
 }
 
 // A text in modified UTF-8, from its length number on.
-fn read_text(file: &[u8], at: usize) -> Run
+fn read_text(file: &[u8], at: usize) -> Result<usize, usize>
     requires { at ≤ length file.now }
     ensures { result ≡ run_of (read_by (entry_format (length file.now) 1) file.now at) }
 {
     if file.len() - at < 2 {
-        return Run::Wrong(at);
+        return Err(at);
     }
     let size = read_u16(file, at);
     let start = at + 2;
     if file.len() - start < size {
-        return Run::Wrong(at);
+        return Err(at);
     }
     let end = start + size;
     if is_modified(&file[start..end]) {
-        return Run::End(end);
+        return Ok(end);
     }
-    Run::Wrong(at)
+    Err(at)
 }
 
 // An entry, from its tag on, where so many pool numbers are left behind its own.
-fn read_entry(file: &[u8], at: usize, left: usize) -> Run
+fn read_entry(file: &[u8], at: usize, left: usize) -> Result<usize, usize>
     ensures { result ≡ run_of (read_by (tagged_format (length file.now) left) file.now at) }
 {
     if file.len() <= at {
-        return Run::Wrong(at);
+        return Err(at);
     }
     let tag = file[at];
     if is_right_tag(tag, left) {
@@ -132,7 +132,7 @@ fn read_entry(file: &[u8], at: usize, left: usize) -> Run
         }
         return pass_numbers(file.len(), start, first_width(tag), second_width(tag));
     }
-    Run::Wrong(at)
+    Err(at)
 }
 
 // Zeroes the lent table.
@@ -157,7 +157,7 @@ fn keep(table: &mut [usize], number: usize, place: usize)
 
 // Reads a pool with so many numbers, 0 among them, from its first tag on. The table's cell of a number takes the place of its entry, and 0
 // where the number has none; what the table has no room for is judged and not kept.
-pub fn read_pool(file: &[u8], count: usize, table: &mut [usize]) -> Run
+pub fn read_pool(file: &[u8], count: usize, table: &mut [usize]) -> Result<usize, usize>
     ensures answers { result ≡ run_of (read_by (pool_format (length file.now) (count - 1) false) file.now 10) }
     ensures keeps { table.new ≡ placed (length table.old) (places_in file.now count) }
 {
@@ -169,18 +169,12 @@ pub fn read_pool(file: &[u8], count: usize, table: &mut [usize]) -> Run
         if behind_wide {
             behind_wide = false;
         } else {
-            match read_entry(file, at, count - number - 1) {
-                Run::End(next) => {
-                    keep(table, number, at);
-                    behind_wide = is_wide(byte_at(file, at));
-                    at = next;
-                }
-                Run::Wrong(place) => {
-                    return Run::Wrong(place);
-                }
-            }
+            let next = read_entry(file, at, count - number - 1)?;
+            keep(table, number, at);
+            behind_wide = is_wide(byte_at(file, at));
+            at = next;
         }
         number += 1;
     }
-    Run::End(at)
+    Ok(at)
 }

@@ -1,6 +1,6 @@
 -- A run of members or of local records, one of them at a time.
 -- Assumes nothing.
-use Rattle.std.specs.Prelude.{Option, Some, None}
+use Rattle.std.specs.Prelude.{Option, Some, None, Result, Ok, Err}
 use Prim.Native.Nat.{ℕ, zero, suc, ◌+◌, ◌-◌, ◌<◌}
 use native.Mathlib.Nat.{not-suc-le-zero}
 use native.Mathlib.Numerals.{sub-one}
@@ -15,38 +15,36 @@ use Rattle.items.specs.declared.Text.TheVariants.{Place, NotText}
 use Rattle.tables.specs.Layout.{Layout, text, three_texts, member_then, members_then, record_then, records_then, ended, run_by, then_run}
 use Rattle.tables.specs.LocalRecord.{record_at, then_record}
 use Rattle.tables.specs.Member.{member_at, then_member}
-use Rattle.tables.specs.declared.Run.{Run}
-use Rattle.tables.specs.declared.Run.TheVariants.{End, Wrong}
 
 -- three texts and what follows them
 pub texts_then :
     (following : Layout) (bytes : List ℕ) (at : ℕ) →
     run_by (three_texts following) bytes at
-    ≡ then_run (run_by (three_texts ended) bytes at) (λ wrong. Wrong wrong) (λ end. run_by following bytes end)
+    ≡ then_run (run_by (three_texts ended) bytes at) (λ wrong. Err wrong) (λ end. run_by following bytes end)
 unfolding run_by
 texts_then following bytes at = first (text_at bytes at)
   where
-    onward : ℕ → Run
+    onward : ℕ → Result ℕ ℕ
     onward end = run_by following bytes end
 
     third :
         (t : Text) (there : ℕ) →
-        then_text t (Wrong there) (λ start size. onward (start + size))
-        ≡ then_run (then_text t (Wrong there) (λ start size. End (start + size))) (λ wrong. Wrong wrong) onward
+        then_text t (Err there) (λ start size. onward (start + size))
+        ≡ then_run (then_text t (Err there) (λ start size. Ok (start + size))) (λ wrong. Err wrong) onward
     third (Place start size) there = refl
     third NotText there = refl
 
     second :
         (t : Text) (there : ℕ) →
-        then_text t (Wrong there) (λ start size. run_by (text following) bytes (start + size))
-        ≡ then_run (then_text t (Wrong there) (λ start size. run_by (text ended) bytes (start + size))) (λ wrong. Wrong wrong) onward
+        then_text t (Err there) (λ start size. run_by (text following) bytes (start + size))
+        ≡ then_run (then_text t (Err there) (λ start size. run_by (text ended) bytes (start + size))) (λ wrong. Err wrong) onward
     second (Place start size) there = third (text_at bytes (start + size)) (start + size)
     second NotText there = refl
 
     first :
         (t : Text) →
-        then_text t (Wrong at) (λ start size. run_by (text (text following)) bytes (start + size))
-        ≡ then_run (then_text t (Wrong at) (λ start size. run_by (text (text ended)) bytes (start + size))) (λ wrong. Wrong wrong) onward
+        then_text t (Err at) (λ start size. run_by (text (text following)) bytes (start + size))
+        ≡ then_run (then_text t (Err at) (λ start size. run_by (text (text ended)) bytes (start + size))) (λ wrong. Err wrong) onward
     first (Place start size) = second (text_at bytes (start + size)) (start + size)
     first NotText = refl
 
@@ -55,7 +53,7 @@ module _ (bytes : List ℕ) (last at : ℕ) (following : ℕ → Layout) where
   abbrev MemberThen : Type 0
   MemberThen =
       run_by (member_then last following) bytes at
-      ≡ then_member (member_at bytes last at) (λ wrong. Wrong wrong) (λ place. run_by (following place.index) bytes place.next)
+      ≡ then_member (member_at bytes last at) (λ wrong. Err wrong) (λ place. run_by (following place.index) bytes place.next)
 
   pub member-then : MemberThen
   unfolding run_by member_at
@@ -64,9 +62,9 @@ module _ (bytes : List ℕ) (last at : ℕ) (following : ℕ → Layout) where
       by_texts :
           (index kind_at kind texts : ℕ) → number_at greatest bytes at ≡ Some (index, kind_at) → ltb last index ≡ true →
           number_at greatest bytes kind_at ≡ Some (kind, texts) → leb kind 1 ≡ true →
-          (r : Run) → run_by (three_texts ended) bytes texts ≡ r → MemberThen
-      by_texts index kind_at kind texts e f g h (End next) i = rw (e, f, g, h, texts_then (following index) bytes texts, i)
-      by_texts index kind_at kind texts e f g h (Wrong wrong) i = rw (e, f, g, h, texts_then (following index) bytes texts, i)
+          (r : Result ℕ ℕ) → run_by (three_texts ended) bytes texts ≡ r → MemberThen
+      by_texts index kind_at kind texts e f g h (Ok next) i = rw (e, f, g, h, texts_then (following index) bytes texts, i)
+      by_texts index kind_at kind texts e f g h (Err wrong) i = rw (e, f, g, h, texts_then (following index) bytes texts, i)
 
       by_kind_rule :
           (index kind_at kind texts : ℕ) → number_at greatest bytes at ≡ Some (index, kind_at) → ltb last index ≡ true →
@@ -95,7 +93,7 @@ module _ (bytes : List ℕ) (at : ℕ) (following : Layout) where
   abbrev RecordThen : Type 0
   RecordThen =
       run_by (record_then following) bytes at
-      ≡ then_record (record_at bytes at) (λ wrong. Wrong wrong) (λ place. run_by following bytes place.next)
+      ≡ then_record (record_at bytes at) (λ wrong. Err wrong) (λ place. run_by following bytes place.next)
 
   pub record-then : RecordThen
   unfolding run_by record_at
@@ -131,7 +129,7 @@ module _ (bytes : List ℕ) (at : ℕ) (following : Layout) where
 pub members_turn :
     (bytes : List ℕ) (left last at : ℕ) → 0 < left →
     run_by (members_then left last ended) bytes at
-    ≡ then_member (member_at bytes last at) (λ wrong. Wrong wrong)
+    ≡ then_member (member_at bytes last at) (λ wrong. Err wrong)
     (λ place. run_by (members_then (left - 1) place.index ended) bytes place.next)
 unfolding members_then
 members_turn bytes zero last at some = absurd (not-suc-le-zero some)
@@ -141,7 +139,7 @@ members_turn bytes (suc left) last at some =
 pub records_turn :
     (bytes : List ℕ) (left at : ℕ) → 0 < left →
     run_by (records_then left ended) bytes at
-    ≡ then_record (record_at bytes at) (λ wrong. Wrong wrong) (λ place. run_by (records_then (left - 1) ended) bytes place.next)
+    ≡ then_record (record_at bytes at) (λ wrong. Err wrong) (λ place. run_by (records_then (left - 1) ended) bytes place.next)
 unfolding records_then
 records_turn bytes zero at some = absurd (not-suc-le-zero some)
 records_turn bytes (suc left) at some = rw sub-one (record-then bytes at (records_then left ended))

@@ -1,6 +1,6 @@
 -- A run that starts in the bytes ends in them, whatever its layout.
 -- Assumes nothing.
-use Rattle.std.specs.Prelude.{Option, Some, None}
+use Rattle.std.specs.Prelude.{Option, Some, None, Result, Ok, Err}
 use Prim.Native.Nat.{ℕ, ◌+◌, ◌≤◌}
 use native.Mathlib.Omega.{arith}
 use mathlib.Core.Bool.{Bool, true, false}
@@ -15,12 +15,10 @@ use Rattle.items.specs.declared.Text.TheVariants.{Place, NotText}
 use Rattle.number.proofs.Laws.{number-within}
 use Rattle.items.proofs.Laws.{text-within}
 use Rattle.tables.specs.Layout.{Layout, number, sized, may_end, ended, run_by, run_within}
-use Rattle.tables.specs.declared.Run.{Run}
-use Rattle.tables.specs.declared.Run.TheVariants.{End, Wrong}
 
-later_within : (size at next : ℕ) → at ≤ next → next ≤ size → (r : Run) → run_within size next r → run_within size at r
-later_within size at next later inside (End end) h = (omega arith, λ start. h.1 inside)
-later_within size at next later inside (Wrong place) h = tt
+later_within : (size at next : ℕ) → at ≤ next → next ≤ size → (r : Result ℕ ℕ) → run_within size next r → run_within size at r
+later_within size at next later inside (Ok end) h = (omega arith, λ start. h.1 inside)
+later_within size at next later inside (Err place) h = tt
 
 pub run-within : (layout : Layout) (bytes : List ℕ) (at : ℕ) → run_within (length bytes) at (run_by layout bytes at)
 unfolding run_by
@@ -31,10 +29,10 @@ run-within (number right following) bytes at =
     of :
         (n : Option (ℕ × ℕ)) → number_within greatest (length bytes) at n →
         ((v next : ℕ) → run_within (length bytes) next (run_by (following v) bytes next)) →
-        run_within (length bytes) at (then_number n (Wrong at) (λ v next. pick (right v) (run_by (following v) bytes next) (Wrong at)))
+        run_within (length bytes) at (then_number n (Err at) (λ v next. pick (right v) (run_by (following v) bytes next) (Err at)))
     of (Some (v, next)) h rest = by_test (right v)
       where
-        by_test : (t : Bool) → run_within (length bytes) at (pick t (run_by (following v) bytes next) (Wrong at))
+        by_test : (t : Bool) → run_within (length bytes) at (pick t (run_by (following v) bytes next) (Err at))
         by_test true = later_within (length bytes) at next (omega arith) h.2 (run_by (following v) bytes next) (rest v next)
         by_test false = tt
     of None h rest = tt
@@ -44,7 +42,7 @@ run-within (sized following) bytes at =
     of :
         (t : Text) → text_within (length bytes) at t →
         ((size next : ℕ) → run_within (length bytes) next (run_by (following size) bytes next)) →
-        run_within (length bytes) at (then_text t (Wrong at) (λ start size. run_by (following size) bytes (start + size)))
+        run_within (length bytes) at (then_text t (Err at) (λ start size. run_by (following size) bytes (start + size)))
     of (Place start size) h rest =
         later_within (length bytes) at (start + size) (omega arith) h.2 (run_by (following size) bytes (start + size)) (rest size (start + size))
     of NotText h rest = tt
@@ -52,6 +50,6 @@ run-within (may_end following) bytes at = by_test (ltb at (length bytes)) (run-w
   where
     by_test :
         (t : Bool) → run_within (length bytes) at (run_by following bytes at) →
-        run_within (length bytes) at (pick t (run_by following bytes at) (End at))
+        run_within (length bytes) at (pick t (run_by following bytes at) (Ok at))
     by_test true h = h
     by_test false h = (omega arith, λ inside. inside)

@@ -1,12 +1,10 @@
 -- The layout of a case (document 01, "The case"): which item is due, number or text, in which order and by which rule; and
 -- how bytes are read by a layout.
 -- Assumes nothing.
-use Rattle.std.specs.Prelude.{ℕ, zero, suc, ◌+◌, ◌≤◌, Bool, true, List, ltb, leb, length}
+use Rattle.std.specs.Prelude.{ℕ, zero, suc, ◌+◌, ◌≤◌, Bool, true, List, ltb, leb, length, Result, Ok, Err}
 use Rattle.basics.specs.Choice.{pick}
 use Rattle.number.specs.Number.{greatest, number_at, then_number}
 use Rattle.items.specs.Text.{text_at, then_text}
-use Rattle.tables.specs.declared.Run.{Run}
-use Rattle.tables.specs.declared.Run.TheVariants.{End, Wrong}
 
 -- what is due, and what is due after it: a number that passes a test, or a text, whose length decides what is due next; the
 -- bytes may end here, and else what follows is due; or nothing more
@@ -58,20 +56,20 @@ case_layout = number any (λ flags. number any (λ fault. text (text (tables_the
 -- ---- reading by a layout
 
 -- from a place on: the place after the last item, or the place of the first wrong one
-unfoldable pub run_by : Layout → List ℕ → ℕ → Run
-run_by ended bytes at = End at
+unfoldable pub run_by : Layout → List ℕ → ℕ → Result ℕ ℕ
+run_by ended bytes at = Ok at
 run_by (number right following) bytes at =
-    then_number (number_at greatest bytes at) (Wrong at) (λ v next. pick (right v) (run_by (following v) bytes next) (Wrong at))
+    then_number (number_at greatest bytes at) (Err at) (λ v next. pick (right v) (run_by (following v) bytes next) (Err at))
 run_by (sized following) bytes at =
-    then_text (text_at bytes at) (Wrong at) (λ start size. run_by (following size) bytes (start + size))
-run_by (may_end following) bytes at = pick (ltb at (length bytes)) (run_by following bytes at) (End at)
+    then_text (text_at bytes at) (Err at) (λ start size. run_by (following size) bytes (start + size))
+run_by (may_end following) bytes at = pick (ltb at (length bytes)) (run_by following bytes at) (Ok at)
 
 -- what follows a run, or the answer at its first wrong item
-abbrev pub then_run : {A : Type 0} → Run → (ℕ → A) → (ℕ → A) → A
-then_run (End end) wrong following = following end
-then_run (Wrong place) wrong following = wrong place
+abbrev pub then_run : {A : Type 0} → Result ℕ ℕ → (ℕ → A) → (ℕ → A) → A
+then_run (Ok end) wrong following = following end
+then_run (Err place) wrong following = wrong place
 
 -- a run that starts in the bytes ends in them
-abbrev pub run_within : ℕ → ℕ → Run → Type 0
-run_within size at (End end) = (at ≤ end) × (at ≤ size → end ≤ size)
-run_within size at (Wrong place) = Unit {0}
+abbrev pub run_within : ℕ → ℕ → Result ℕ ℕ → Type 0
+run_within size at (Ok end) = (at ≤ end) × (at ≤ size → end ≤ size)
+run_within size at (Err place) = Unit {0}

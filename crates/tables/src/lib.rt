@@ -1,5 +1,6 @@
 // The tables of a case (document 01, "The case"): its members and its local records, and the lookup of a member. One pass over
 // each, no copy, no byte looked at twice. Every function takes any bytes and any place. What cannot be read is answered.
+// A run of items answers the place after its last item, or the place of the first wrong one.
 #![tactic(auto)]
 
 ghost use Rattle.std.specs.Prelude.{◌≡◌, length};
@@ -9,15 +10,6 @@ ghost use Rattle.tables.specs.LocalRecord.{record_at, record_within};
 
 use items::{Text, read_text};
 use number::case_number;
-
-// What reading a run of items answers.
-#[derive(Clone, Copy)]
-pub enum Run {
-    // The place after the last item.
-    End(usize),
-    // The place of the first wrong item.
-    Wrong(usize),
-}
 
 // A member: its pool index and kind, where its three texts lie, and where the next member begins.
 #[derive(Clone, Copy)]
@@ -56,21 +48,21 @@ pub enum LocalRecord {
 }
 
 // Three texts, one behind the other.
-fn read_texts(bytes: &[u8], at: usize) -> Run
+fn read_texts(bytes: &[u8], at: usize) -> Result<usize, usize>
     ensures { (result ≡ run_by (three_texts ended) bytes.now at) × run_within (length bytes.now) at result }
 {
     let Text::Place(class, class_length) = read_text(bytes, at) else {
-        return Run::Wrong(at);
+        return Err(at);
     };
     let name_at = class + class_length;
     let Text::Place(name, name_length) = read_text(bytes, name_at) else {
-        return Run::Wrong(name_at);
+        return Err(name_at);
     };
     let descriptor_at = name + name_length;
     let Text::Place(descriptor, descriptor_length) = read_text(bytes, descriptor_at) else {
-        return Run::Wrong(descriptor_at);
+        return Err(descriptor_at);
     };
-    Run::End(descriptor + descriptor_length)
+    Ok(descriptor + descriptor_length)
 }
 
 // The member at a place, whose pool index has to be above the last one.
@@ -90,18 +82,18 @@ pub fn read_member(bytes: &[u8], at: usize, last: usize) -> Member
         return Member::Wrong(kind_at);
     }
     match read_texts(bytes, texts) {
-        Run::End(next) => Member::Read(MemberPlace {
+        Ok(next) => Member::Read(MemberPlace {
             index,
             kind,
             texts,
             next,
         }),
-        Run::Wrong(wrong) => Member::Wrong(wrong),
+        Err(wrong) => Member::Wrong(wrong),
     }
 }
 
 // So many members from a place on, whose pool indexes are above 0 and strictly rise.
-pub fn read_members(bytes: &[u8], from: usize, count: usize) -> Run
+pub fn read_members(bytes: &[u8], from: usize, count: usize) -> Result<usize, usize>
     ensures { (result ≡ run_by (members_then count 0 ended) bytes.now from)
         × run_within (length bytes.now) from result }
 {
@@ -115,12 +107,12 @@ pub fn read_members(bytes: &[u8], from: usize, count: usize) -> Run
                 last = member.index;
             }
             Member::Wrong(wrong) => {
-                return Run::Wrong(wrong);
+                return Err(wrong);
             }
         }
         left -= 1;
     }
-    Run::End(at)
+    Ok(at)
 }
 
 // The local record at a place. A search over a run of records goes from each to the next.
@@ -150,7 +142,7 @@ pub fn read_record(records: &[u8], at: usize) -> LocalRecord
 }
 
 // So many local records from a place on.
-pub fn read_records(bytes: &[u8], from: usize, count: usize) -> Run
+pub fn read_records(bytes: &[u8], from: usize, count: usize) -> Result<usize, usize>
     ensures { (result ≡ run_by (records_then count ended) bytes.now from)
         × run_within (length bytes.now) from result }
 {
@@ -162,10 +154,10 @@ pub fn read_records(bytes: &[u8], from: usize, count: usize) -> Run
                 at = place.next;
             }
             LocalRecord::Wrong(wrong) => {
-                return Run::Wrong(wrong);
+                return Err(wrong);
             }
         }
         left -= 1;
     }
-    Run::End(at)
+    Ok(at)
 }

@@ -32,29 +32,29 @@ returns-in_default-read_window c =
     let max-locals = sym c.read_u2-2.ensures ∙ c.in-Value-read_u2.is in
     told code_told (code_format (names_by a.file.now a.table.now) a.limit) (number_right max-stack refl (number_right max-locals refl (text_cut (sym c.read_window.ensures ∙ c.in_default-read_window.is))))
 
-pub returns-in-End : goal.returns-in-End
+pub returns-in-Ok : goal.returns-in-Ok
 unfolding code_format
-returns-in-End c =
+returns-in-Ok c =
     let a = c.args in
     let max-stack = sym c.read_u2.ensures ∙ c.in-Value.is in
     let max-locals = sym c.read_u2-2.ensures ∙ c.in-Value-read_u2.is in
     let code = sym c.read_window.ensures ∙ c.in-Inside.is in
     let fits = ap (λ (n : ℕ). between 1 65535 n) (sym c.bytes_to-size.ensures) ∙ sym c.is_code_length.ensures ∙ c.if-is_code_length.true in
     let place : ℕ → CodePlace = λ n. record { start = c.in-Inside.start; size = n; stop = a.limit } in
-    ap (λ (n : ℕ). Read (place n) c.in-End.next) c.bytes_to-size.ensures
+    ap (λ (n : ℕ). Read (place n) c.in-Ok.next) c.bytes_to-size.ensures
     ∙ told code_told (code_format (names_by a.file.now a.table.now) a.limit) (number_right max-stack refl (number_right max-locals refl (text_right code fits
-    (then_right _ _ (sym c.read_tables.ensures ∙ c.in-End.is) (λ tables. all_done)))))
+    (then_right _ _ (sym c.read_tables.ensures ∙ c.in-Ok.is) (λ tables. all_done)))))
 
-pub returns-in-Wrong : goal.returns-in-Wrong
+pub returns-in-Err : goal.returns-in-Err
 unfolding code_format
-returns-in-Wrong c =
+returns-in-Err c =
     let a = c.args in
     let max-stack = sym c.read_u2.ensures ∙ c.in-Value.is in
     let max-locals = sym c.read_u2-2.ensures ∙ c.in-Value-read_u2.is in
     let code = sym c.read_window.ensures ∙ c.in-Inside.is in
     let fits = ap (λ (n : ℕ). between 1 65535 n) (sym c.bytes_to-size.ensures) ∙ sym c.is_code_length.ensures ∙ c.if-is_code_length.true in
     told code_told (code_format (names_by a.file.now a.table.now) a.limit) (number_right max-stack refl (number_right max-locals refl (text_right code fits
-    (then_wrong _ _ (sym c.read_tables.ensures ∙ c.in-Wrong.is)))))
+    (then_wrong _ _ (sym c.read_tables.ensures ∙ c.in-Err.is)))))
 
 pub returns : goal.returns
 unfolding code_format

@@ -3,7 +3,7 @@
 use mathlib.Core.Path.{refl, ◌∙◌, sym}
 use Rattle.format.specs.Format.{full, done, times}
 use Rattle.format.specs.Items.{run_of}
-use Rattle.format.proofs.Items.{told, number_cut, number_right, then_right, then_wrong, all_read, more_there, all_done}
+use Rattle.format.proofs.Items.{passed_on, told, number_cut, number_right, then_right, then_wrong, all_read, more_there, all_done}
 use Rattle.classformat.specs.ClassFile.{joined, code_attribute_format, code_end_format}
 use Rattle.entries.specs.Entries.{names_by}
 use Rattle.bodies.proofs.read_code_end.Goals as goal
@@ -19,18 +19,18 @@ unfolding code_end_format
 returns-then-next-limit c =
     let a = c.args in
     let count = sym c.read_u2.ensures ∙ c.in-Value.is in
-    told run_of (code_end_format (names_by a.file.now a.table.now) a.limit) (number_right count refl (then_right (times c.in-Value.count (code_attribute_format (names_by a.file.now a.table.now) a.limit)) (λ tables. full a.limit (done (joined tables))) (sym c.read_code_attributes.ensures ∙ c.in-End.is) (λ read. more_there c.if-next-limit.true)))
+    told run_of (code_end_format (names_by a.file.now a.table.now) a.limit) (number_right count refl (then_right (times c.in-Value.count (code_attribute_format (names_by a.file.now a.table.now) a.limit)) (λ tables. full a.limit (done (joined tables))) (sym c.read_code_attributes.ensures ∙ c.in_ok-next.was) (λ read. more_there c.if-next-limit.true)))
 
-pub returns-else-next-limit : goal.returns-else-next-limit
+pub returns : goal.returns
 unfolding code_end_format
-returns-else-next-limit c =
+returns c =
     let a = c.args in
     let count = sym c.read_u2.ensures ∙ c.in-Value.is in
-    told run_of (code_end_format (names_by a.file.now a.table.now) a.limit) (number_right count refl (then_right (times c.in-Value.count (code_attribute_format (names_by a.file.now a.table.now) a.limit)) (λ tables. full a.limit (done (joined tables))) (sym c.read_code_attributes.ensures ∙ c.in-End.is) (λ read. all_read c.if-next-limit.false all_done)))
+    told run_of (code_end_format (names_by a.file.now a.table.now) a.limit) (number_right count refl (then_right (times c.in-Value.count (code_attribute_format (names_by a.file.now a.table.now) a.limit)) (λ tables. full a.limit (done (joined tables))) (sym c.read_code_attributes.ensures ∙ c.in_ok-next.was) (λ read. all_read c.if-next-limit.false all_done)))
 
-pub returns-in-Wrong : goal.returns-in-Wrong
+pub returns-in_err-next : goal.returns-in_err-next
 unfolding code_end_format
-returns-in-Wrong c =
+returns-in_err-next c =
     let a = c.args in
     let count = sym c.read_u2.ensures ∙ c.in-Value.is in
-    told run_of (code_end_format (names_by a.file.now a.table.now) a.limit) (number_right count refl (then_wrong (times c.in-Value.count (code_attribute_format (names_by a.file.now a.table.now) a.limit)) (λ tables. full a.limit (done (joined tables))) (sym c.read_code_attributes.ensures ∙ c.in-Wrong.is)))
+    passed_on c.from_residual.ensures.1 ∙ told run_of (code_end_format (names_by a.file.now a.table.now) a.limit) (number_right count refl (then_wrong (times c.in-Value.count (code_attribute_format (names_by a.file.now a.table.now) a.limit)) (λ tables. full a.limit (done (joined tables))) (sym c.read_code_attributes.ensures ∙ c.in_err-next.was)))

@@ -17,26 +17,26 @@ returns-in_default c =
     let a = c.args in
     told methods_told (methods_format (names_by a.file.now a.table.now) a.limit) (number_cut (sym c.read_u2.ensures ∙ c.in_default.is))
 
-pub returns-in-End-read_end : goal.returns-in-End-read_end
+pub returns-in-Ok-read_end : goal.returns-in-Ok-read_end
 unfolding methods_format
-returns-in-End-read_end c =
+returns-in-Ok-read_end c =
     let a = c.args in
     let count = sym c.read_u2.ensures ∙ c.in-Value.is in
-    let read = ended (read_by (times c.in-Value.count (method_format (names_by a.file.now a.table.now) a.limit)) a.file.now c.in-Value.from) (sym c.read_methods.ensures ∙ c.in-End.is) in
+    let read = ended (read_by (times c.in-Value.count (method_format (names_by a.file.now a.table.now) a.limit)) a.file.now c.in-Value.from) (sym c.read_methods.ensures ∙ c.in-Ok.is) in
     ap (λ (n : ℕ). Read c.in-Value.from n) (sym (so_many (method_format (names_by a.file.now a.table.now) a.limit) c.in-Value.count a.file.now c.in-Value.from read.1))
-    ∙ told methods_told (methods_format (names_by a.file.now a.table.now) a.limit) (number_right count refl (told_here (then-read _ _ read.1 (then_right _ _ (sym c.read_end.ensures ∙ c.in-End-read_end.is) (λ end. all_done)))))
+    ∙ told methods_told (methods_format (names_by a.file.now a.table.now) a.limit) (number_right count refl (told_here (then-read _ _ read.1 (then_right _ _ (sym c.read_end.ensures ∙ c.in-Ok-read_end.is) (λ end. all_done)))))
 
-pub returns-in-Wrong-read_end : goal.returns-in-Wrong-read_end
+pub returns-in-Err-read_end : goal.returns-in-Err-read_end
 unfolding methods_format
-returns-in-Wrong-read_end c =
+returns-in-Err-read_end c =
     let a = c.args in
     let count = sym c.read_u2.ensures ∙ c.in-Value.is in
-    let read = ended (read_by (times c.in-Value.count (method_format (names_by a.file.now a.table.now) a.limit)) a.file.now c.in-Value.from) (sym c.read_methods.ensures ∙ c.in-End.is) in
-    told methods_told (methods_format (names_by a.file.now a.table.now) a.limit) (number_right count refl (told_here (then-read _ _ read.1 (then_wrong _ _ (sym c.read_end.ensures ∙ c.in-Wrong-read_end.is)))))
+    let read = ended (read_by (times c.in-Value.count (method_format (names_by a.file.now a.table.now) a.limit)) a.file.now c.in-Value.from) (sym c.read_methods.ensures ∙ c.in-Ok.is) in
+    told methods_told (methods_format (names_by a.file.now a.table.now) a.limit) (number_right count refl (told_here (then-read _ _ read.1 (then_wrong _ _ (sym c.read_end.ensures ∙ c.in-Err-read_end.is)))))
 
-pub returns-in-Wrong : goal.returns-in-Wrong
+pub returns-in-Err : goal.returns-in-Err
 unfolding methods_format
-returns-in-Wrong c =
+returns-in-Err c =
     let a = c.args in
     let count = sym c.read_u2.ensures ∙ c.in-Value.is in
-    told methods_told (methods_format (names_by a.file.now a.table.now) a.limit) (number_right count refl (told_here (then_wrong _ _ (sym c.read_methods.ensures ∙ c.in-Wrong.is))))
+    told methods_told (methods_format (names_by a.file.now a.table.now) a.limit) (number_right count refl (told_here (then_wrong _ _ (sym c.read_methods.ensures ∙ c.in-Err.is))))

@@ -51,9 +51,9 @@ returns-in_default-read_u2-3 c =
     let minor = sym c.read_u2.ensures ∙ c.in-Value-read_u2.is in
     let major = sym c.read_u2-then-magic-eq-MAGIC.ensures ∙ c.in-Value-read_u2-2.is in record { answers = told start_told (start_format (length file)) (number_right magic rightly (number_right minor refl (number_right major refl (number_cut (sym c.read_u2-then-magic-eq-MAGIC-2.ensures ∙ c.in_default-read_u2-3.is))))); keeps = left_short file before (count_short file magic minor major (sym c.read_u2-then-magic-eq-MAGIC-2.ensures ∙ c.in_default-read_u2-3.is)) }
 
-pub returns-in-End : goal.returns-in-End
+pub returns-in-Ok : goal.returns-in-Ok
 unfolding start_format
-returns-in-End c =
+returns-in-Ok c =
     let a = c.args in
     let file = a.file.now in
     let before = a.table.now in
@@ -67,11 +67,11 @@ returns-in-End c =
     let number = count_is file magic minor major count in
     let kept = c.read_pool.ensures.keeps ∙ ap (λ (n : ℕ). placed (length before) (places_in file n)) (sym number)
     ∙ filled file before (long file magic minor major count) (magic_is file magic ∙ c.if-magic-eq-MAGIC.true) (subst (λ (n : ℕ). 0 < n) (sym number) c.if-count-gt0.true) in
-    let read = ended (read_by (pool_format (length file) (c.in-Value-read_u2-3.count - 1) false) file 10) (sym c.read_pool.ensures.answers ∙ c.in-End.is) in record { answers = told start_told (start_format (length file)) (number_right magic rightly (number_right minor refl (number_right major refl (number_right count some (rw place (then-read _ _ read.1 all_done)))))); keeps = kept }
+    let read = ended (read_by (pool_format (length file) (c.in-Value-read_u2-3.count - 1) false) file 10) (sym c.read_pool.ensures.answers ∙ c.in-Ok.is) in record { answers = told start_told (start_format (length file)) (number_right magic rightly (number_right minor refl (number_right major refl (number_right count some (rw place (then-read _ _ read.1 all_done)))))); keeps = kept }
 
-pub returns-in-Wrong : goal.returns-in-Wrong
+pub returns-in-Err : goal.returns-in-Err
 unfolding start_format
-returns-in-Wrong c =
+returns-in-Err c =
     let a = c.args in
     let file = a.file.now in
     let before = a.table.now in
@@ -84,7 +84,7 @@ returns-in-Wrong c =
     let place = pool_at file magic minor major count in
     let number = count_is file magic minor major count in
     let kept = c.read_pool.ensures.keeps ∙ ap (λ (n : ℕ). placed (length before) (places_in file n)) (sym number)
-    ∙ filled file before (long file magic minor major count) (magic_is file magic ∙ c.if-magic-eq-MAGIC.true) (subst (λ (n : ℕ). 0 < n) (sym number) c.if-count-gt0.true) in record { answers = told start_told (start_format (length file)) (number_right magic rightly (number_right minor refl (number_right major refl (number_right count some (rw place (then_wrong _ _ (sym c.read_pool.ensures.answers ∙ c.in-Wrong.is))))))); keeps = kept }
+    ∙ filled file before (long file magic minor major count) (magic_is file magic ∙ c.if-magic-eq-MAGIC.true) (subst (λ (n : ℕ). 0 < n) (sym number) c.if-count-gt0.true) in record { answers = told start_told (start_format (length file)) (number_right magic rightly (number_right minor refl (number_right major refl (number_right count some (rw place (then_wrong _ _ (sym c.read_pool.ensures.answers ∙ c.in-Err.is))))))); keeps = kept }
 
 pub returns-then-magic-eq-MAGIC : goal.returns-then-magic-eq-MAGIC
 unfolding start_format

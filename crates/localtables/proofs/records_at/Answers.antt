@@ -70,7 +70,7 @@ returns c =
       λ locals end is.
           let due = judged (code_attribute_format (names_by a.file.now a.table.now) a.limit) a.file.now a.at is in
           let behind = other_behind (names_by a.file.now a.table.now) a.limit a.file.now a.at due (sym c.read_u2.ensures ∙ c.in-Value.is) (sym c.is_named.ensures ∙ c.if-is_named.false) in
-          let stop = c.in-End.stop in
-          let passed = passed_behind behind (sym c.pass_over.ensures ∙ c.in-End.is) in
+          let stop = c.in-Ok.stop in
+          let passed = passed_behind behind (sym c.pass_over.ensures ∙ c.in-Ok.is) in
           (passed.1, no_times (local_format (names_by a.file.now a.table.now) stop) a.file.now stop ∙ ap (λ (ls : List Local). right ls stop) passed.0 ∙ ap (right locals) passed.1),
     )

@@ -7,12 +7,12 @@ use Rattle.entries.specs.Entries.{names_by}
 use Rattle.methods.specs.Method.{method_told, method_behind}
 use Rattle.methods.proofs.find_method.Goals as goal
 
-pub returns-in-End : goal.returns-in-End
-returns-in-End c =
+pub returns-in-Ok : goal.returns-in-Ok
+returns-in-Ok c =
     let a = c.args in
-    told method_told (method_behind a.place (method_format (names_by a.file.now a.table.now) a.limit)) (then_right _ _ (sym c.read_methods.ensures ∙ c.in-End.is) (λ before. record { is = sym c.read_method.ensures }))
+    told method_told (method_behind a.place (method_format (names_by a.file.now a.table.now) a.limit)) (then_right _ _ (sym c.read_methods.ensures ∙ c.in-Ok.is) (λ before. record { is = sym c.read_method.ensures }))
 
-pub returns-in-Wrong : goal.returns-in-Wrong
-returns-in-Wrong c =
+pub returns-in-Err : goal.returns-in-Err
+returns-in-Err c =
     let a = c.args in
-    told method_told (method_behind a.place (method_format (names_by a.file.now a.table.now) a.limit)) (then_wrong _ _ (sym c.read_methods.ensures ∙ c.in-Wrong.is))
+    told method_told (method_behind a.place (method_format (names_by a.file.now a.table.now) a.limit)) (then_wrong _ _ (sym c.read_methods.ensures ∙ c.in-Err.is))

@@ -9,14 +9,14 @@ use Rattle.methods.specs.declared.BodyPlace.{BodyPlace}
 use Rattle.methods.specs.declared.BodyRead.TheVariants.{Read}
 use Rattle.methods.proofs.pass_attribute.Goals as goal
 
-pub returns-in-End : goal.returns-in-End
-returns-in-End c =
+pub returns-in-Ok : goal.returns-in-Ok
+returns-in-Ok c =
     let a = c.args in
     λ before is.
-    ap (λ (place : BodyPlace). Read place c.in-End.next) (sym is)
-    ∙ told body_told (passed_over a.limit before) (passed_right before (sym c.pass_over.ensures ∙ c.in-End.is))
+    ap (λ (place : BodyPlace). Read place c.in-Ok.next) (sym is)
+    ∙ told body_told (passed_over a.limit before) (passed_right before (sym c.pass_over.ensures ∙ c.in-Ok.is))
 
-pub returns-in-Wrong : goal.returns-in-Wrong
-returns-in-Wrong c =
+pub returns-in-Err : goal.returns-in-Err
+returns-in-Err c =
     let a = c.args in
-    λ before is. told body_told (passed_over a.limit before) (passed_wrong before (sym c.pass_over.ensures ∙ c.in-Wrong.is))
+    λ before is. told body_told (passed_over a.limit before) (passed_wrong before (sym c.pass_over.ensures ∙ c.in-Err.is))

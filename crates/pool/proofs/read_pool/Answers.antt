@@ -8,11 +8,12 @@ use mathlib.Core.Bool.{true, false}
 use mathlib.Core.List.{List}
 use lib.ListN.{length, set, replicate, length-replicate}
 use Rattle.basics.specs.Bytes.{byte_at}
+use Rattle.format.proofs.Items.{passed_on}
 use Rattle.classformat.specs.ClassFile.{wide}
 use Rattle.pool.specs.Pool.{placed, places_in}
 use Rattle.pool.proofs.Filling.{starts, taken, goes_on, reads_entry, passes_number, stops, ends}
 use Rattle.pool.proofs.read_pool.Goals as goal
-use Rattle.pool.proofs.read_pool.Goals.{then-behind_wide, else-behind_wide+in-End}
+use Rattle.pool.proofs.read_pool.Goals.{then-behind_wide, else-behind_wide+in_ok-next}
 
 cleared-length : (table before : List ℕ) → table ≡ replicate (length before) 0 → length table ≡ length before
 cleared-length table before is = ap (λ (t : List ℕ). length t) is ∙ length-replicate {A = ℕ} (length before) 0
@@ -23,21 +24,21 @@ loop-number-init c =
     starts c.args.file.now c.args.count (length c.clear.new.table) c.clear.new.table
     (emptied ∙ ap (λ (room : ℕ). replicate room 0) (sym (cleared-length c.clear.new.table c.args.table.now emptied)))
 
-pub shape_of-table-in-Wrong : goal.shape_of-table-in-Wrong
-shape_of-table-in-Wrong c =
+pub shape_of-table-in_err-next : goal.shape_of-table-in_err-next
+shape_of-table-in_err-next c =
     let before = c.args.table.now in
     c.loop-number.invariant.long ∙ cleared-length c.clear.new.table before c.clear.ensures
 
-pub returns-in-Wrong : goal.returns-in-Wrong
-returns-in-Wrong c =
+pub returns-in_err-next : goal.returns-in_err-next
+returns-in_err-next c =
     let a = c.args in
     let l = c.loop-number in
     let room = length c.clear.new.table in
     let told = stops a.file.now a.count room l.table l.at l.number (a.count - l.number - 1)
-    c.in-Wrong.place (sym c.read_entry.ensures ∙ c.in-Wrong.is)
+    _ (sym c.read_entry.ensures ∙ c.in_err-next.was)
     (taken a.file.now a.count room l.table l.at l.number l.behind_wide false
     c.if-behind_wide.false c.loop-number-test.true l.invariant) in
-    let same = cleared-length c.clear.new.table a.table.now c.clear.ensures in record { answers = told.0; keeps = told.1 ∙ ap (λ (room : ℕ). placed room (places_in a.file.now a.count)) same }
+    let same = cleared-length c.clear.new.table a.table.now c.clear.ensures in record { answers = passed_on c.from_residual.ensures.1 ∙ told.0; keeps = told.1 ∙ ap (λ (room : ℕ). placed room (places_in a.file.now a.count)) same }
 
 pub overflow_add-number : goal.overflow_add-number
 overflow_add-number c = omega arith
@@ -59,12 +60,12 @@ loop-number-preserved c =
           w.table-is w.at-is w.behind_wide-is
           (passes_number file a.count room l.table l.at l.number left
           (taken file a.count room l.table l.at l.number l.behind_wide true w.if-behind_wide.true some l.invariant))
-      | else-behind_wide+in-End w ↦
-          goes_on file a.count room (set l.table l.number l.at) c.if-behind_wide.table w.in-End.next c.if-behind_wide.at l.number
+      | else-behind_wide+in_ok-next w ↦
+          goes_on file a.count room (set l.table l.number l.at) c.if-behind_wide.table w.in_ok-next.next c.if-behind_wide.at l.number
           (wide (byte_at file l.at)) c.if-behind_wide.behind_wide (w.table-is ∙ w.keep.ensures) w.at-is
           (w.behind_wide-is ∙ w.is_wide-behind_wide.ensures ∙ ap (λ (tag : ℕ). wide tag) w.byte_at.ensures)
-          (reads_entry file a.count room l.table l.at l.number left w.in-End.next
-          (sym w.read_entry.ensures ∙ w.in-End.is)
+          (reads_entry file a.count room l.table l.at l.number left w.in_ok-next.next
+          (sym w.read_entry.ensures ∙ w.in_ok-next.was)
           (taken file a.count room l.table l.at l.number l.behind_wide false w.if-behind_wide.false some l.invariant))
     ]
 

@@ -1,5 +1,6 @@
 -- `pool::read_text` meets its contract. Where the length is cut, so is what it would count.
 -- Assumes nothing.
+use Rattle.std.specs.Prelude.{Ok}
 use Prim.Native.Nat.{ℕ, ◌+◌, ◌-◌}
 use native.Mathlib.Omega.{arith}
 use mathlib.Core.Path.{◌≡◌, ◌∙◌, sym, ap}
@@ -8,7 +9,6 @@ use lib.ListN.{length}
 use Rattle.basics.specs.Bytes.{u16_at}
 use Rattle.utf8.specs.Turning.{is_modified}
 use Rattle.format.specs.Format.{bytes_at}
-use Rattle.tables.specs.declared.Run.TheVariants.{End}
 use Rattle.pool.proofs.Entries.{cut_text, judged_text}
 use Rattle.pool.proofs.read_text.Goals as goal
 
@@ -30,7 +30,7 @@ returns-then-is_modified c =
     let same : u16_at file at ≡ (at + 2 + c.read_u16-size.result) - (at + 2) = omega (arith, size) in
     let is : is_modified (bytes_at file (at + 2) (u16_at file at)) ≡ true =
     ap (λ (n : ℕ). is_modified (bytes_at file (at + 2) n)) same ∙ sym c.is_modified.ensures ∙ c.if-is_modified.true in
-    ap (λ (n : ℕ). End (at + 2 + n)) size ∙ sym (judged_text file (length file) at true (omega (arith, size)) is)
+    ap (λ (n : ℕ). Ok (at + 2 + n)) size ∙ sym (judged_text file (length file) at true (omega (arith, size)) is)
 
 pub returns : goal.returns
 returns c =

@@ -32,24 +32,24 @@ returns-then-kind-gt1 c =
     let kind-is = sym c.case_number-2.ensures.0 ∙ c.in-Some-case_number.is in
     (sym (rw (index_is, lt-ltb _ _ c.if-index-last.false, kind-is, lt-leb _ _ c.if-kind-gt1.true)), tt)
 
-pub returns-in-End : goal.returns-in-End
+pub returns-in-Ok : goal.returns-in-Ok
 unfolding member_at
-returns-in-End c =
+returns-in-Ok c =
     let index_is = sym c.case_number.ensures.0 ∙ c.in-Some.is in
     let kind-is = sym c.case_number-2.ensures.0 ∙ c.in-Some-case_number.is in
-    let next_is = sym c.read_texts.ensures.0 ∙ c.in-End.is in
+    let next_is = sym c.read_texts.ensures.0 ∙ c.in-Ok.is in
     let indexes = rw c.in-Some.is at c.case_number.ensures.1 in
     let kinds = rw c.in-Some-case_number.is at c.case_number-2.ensures.1 in
-    let run = rw c.in-End.is at c.read_texts.ensures.1 in (
+    let run = rw c.in-Ok.is at c.read_texts.ensures.1 in (
       sym
           (rw (index_is, lt-ltb _ _ c.if-index-last.false, kind-is, le-leb _ _ c.if-kind-gt1.false, next_is)),
       (omega (arith, indexes.1, kinds.1), run.0, run.1 kinds.2),
     )
 
-pub returns-in-Wrong : goal.returns-in-Wrong
+pub returns-in-Err : goal.returns-in-Err
 unfolding member_at
-returns-in-Wrong c =
+returns-in-Err c =
     let index_is = sym c.case_number.ensures.0 ∙ c.in-Some.is in
     let kind-is = sym c.case_number-2.ensures.0 ∙ c.in-Some-case_number.is in
-    let wrong-is = sym c.read_texts.ensures.0 ∙ c.in-Wrong.is in
+    let wrong-is = sym c.read_texts.ensures.0 ∙ c.in-Err.is in
     (sym (rw (index_is, lt-ltb _ _ c.if-index-last.false, kind-is, le-leb _ _ c.if-kind-gt1.false, wrong-is)), tt)

@@ -1,11 +1,11 @@
 -- `tables::read_texts` meets its contract. Each text begins where the one before it ends.
 -- Assumes nothing.
+use Rattle.std.specs.Prelude.{ℕ, Result}
 use native.Mathlib.Omega.{arith}
 use mathlib.Core.Path.{◌∙◌, sym}
 use lib.ListN.{length}
 use Rattle.number.proofs.Laws.{kept}
 use Rattle.tables.specs.Layout.{three_texts, ended, run_by, run_within}
-use Rattle.tables.specs.declared.Run.{Run}
 use Rattle.tables.proofs.Within.{run-within}
 use Rattle.tables.proofs.read_texts.Goals as goal
 
@@ -46,6 +46,6 @@ returns c =
     let name_is = sym c.read_text-2.ensures.0 ∙ c.in-Place-read_text.is in
     let descriptor_is = sym c.read_text-3.ensures.0 ∙ c.in-Place-read_text-2.is in
     let a = c.args in
-    kept (λ (r : Run). run_within (length a.bytes.now) a.at r)
+    kept (λ (r : Result ℕ ℕ). run_within (length a.bytes.now) a.at r)
     (sym (rw (class_is, name_is, descriptor_is)))
     (run-within (three_texts ended) a.bytes.now a.at)
