@@ -1,18 +1,17 @@
 -- What a report answers (document 01, "Numbers returned"): what there is to say, the answer and the output that it makes of a lent
 -- output, and document 01's number of each answer.
 -- Assumes nothing.
-use Rattle.std.specs.Prelude.{ℕ, min, List, [], ◌∷◌, ◌≡◌, leb, length}
+use Rattle.std.specs.Prelude.{ℕ, min, List, [], ◌∷◌, ◌≡◌, leb, length, Option, None, Some}
+use Rattle.cell.specs.declared.Load.{Load}
 use Rattle.basics.specs.Choice.{pick}
 use Rattle.text.specs.Writing.{most, over}
-use Rattle.cell.specs.declared.Slot.{Slot}
-use Rattle.cell.specs.declared.Slot.TheVariants.{Other, Loaded}
 use Rattle.answer.specs.declared.Report.{Report}
 use Rattle.answer.specs.declared.Report.TheVariants as report
 
 -- "kind (1 action, 2 action and cause)"
-abbrev pub kind_of : Slot → ℕ
-kind_of Other = 1
-kind_of (Loaded load local) = 2
+abbrev pub kind_of : Option Load → ℕ
+kind_of None = 1
+kind_of (Some load) = 2
 
 -- what a report has to say, before the output's room is judged: nothing, that the stack lacks room at an index, or a message
 -- with its kind, scan count and block count

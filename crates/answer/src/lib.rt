@@ -5,7 +5,7 @@ ghost use Rattle.std.specs.Prelude.{◌≡◌};
 ghost use Rattle.message.specs.Message.{message_text};
 ghost use Rattle.answer.specs.Answer.{kind_of, said, Delivered};
 
-use cell::Slot;
+use cell::Load;
 use fault::Action;
 use message::put_message_at;
 use words::Wording;
@@ -34,12 +34,12 @@ pub enum Report {
 }
 
 // The kind of a message: 1 for the action alone, 2 for the action and the cause.
-fn kind_of(cause: Slot) -> usize
+fn kind_of(cause: Option<Load>) -> usize
     ensures { result ≡ kind_of cause }
 {
     match cause {
-        Slot::Other => 1,
-        Slot::Loaded { load: _, local: _ } => 2,
+        None => 1,
+        Some(_) => 2,
     }
 }
 
@@ -50,7 +50,7 @@ pub fn write_message(
     members: &[u8],
     member_count: usize,
     action: Action,
-    cause: Slot,
+    cause: Option<Load>,
     records: &[u8],
     record_count: usize,
     signature: &[u8],

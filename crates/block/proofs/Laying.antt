@@ -1,5 +1,6 @@
 -- What the code's stores make of the cells: a list is laid into them, or there are too few slots or too few cells.
 -- Assumes nothing.
+use Rattle.std.specs.Prelude.{Some, None}
 use Prim.Native.Nat.{ℕ, zero, suc, ◌+◌, ◌-◌, ◌≤◌, ◌<◌}
 use native.Mathlib.Omega.{arith}
 use mathlib.Core.Path.{◌≡◌, refl, ◌∙◌, sym, ap, ap₂}
@@ -12,7 +13,6 @@ use lib.Seq.{length-take-le, take-take, take-suc, drop-cons, get_or-take, drop-a
 use lib.Seq.{drop-set-lt, take-set-lt, take-suc-set}
 use borrow.Author.Tests.{le-leb, lt-leb}
 use Rattle.cell.specs.Cell.{packed}
-use Rattle.cell.specs.declared.Cell.TheVariants.{Held, TooLarge}
 use Rattle.cell.proofs.Laws.{held_so, too_large as none_packed}
 use Rattle.row.specs.Code.{swap_places}
 use Rattle.block.specs.Inner.{Clean, Laid}
@@ -137,25 +137,25 @@ module _ (c : List ℕ) (h : ℕ) (clean : Clean c h) where
   none_taken = let all : h - 0 ≡ h = omega arith in ap (λ (k : ℕ). take k c) all
 
   load_is :
-      (pc local v : ℕ) → packed pc local ≡ Held v → applied cells pc (does 0 (load local)) slots ≡ made (slots ++ v ∷ [])
+      (pc local v : ℕ) → packed pc local ≡ Some v → applied cells pc (does 0 (load local)) slots ≡ made (slots ++ v ∷ [])
   load_is pc local v e =
       let h = held_so pc local v e in
       enough pc 0 (load local) (omega arith) ∙ rw (h.0, none_taken, h.1)
 
   pub load_refused :
-      (pc local : ℕ) → packed pc local ≡ TooLarge → Laid c Refused c (applied cells pc (does 0 (load local)) slots)
+      (pc local : ℕ) → packed pc local ≡ None → Laid c Refused c (applied cells pc (does 0 (load local)) slots)
   load_refused pc local e =
       let is : applied cells pc (does 0 (load local)) slots ≡ refused too_large =
       enough pc 0 (load local) (omega arith) ∙ rw (none_packed pc local e) in
       rw is (record { answers = refl; leaves = refl })
 
   pub load_over :
-      (pc local v : ℕ) → packed pc local ≡ Held v → length c ≤ h →
+      (pc local v : ℕ) → packed pc local ≡ Some v → length c ≤ h →
       Laid c Over c (applied cells pc (does 0 (load local)) slots)
   load_over pc local v e full = laid_over c _ _ (load_is pc local v e) (omega (arith, top_length v))
 
   pub load_high :
-      (pc local v : ℕ) → packed pc local ≡ Held v → h < length c →
+      (pc local v : ℕ) → packed pc local ≡ Some v → h < length c →
       Laid c (High (h + 1)) (set c h v) (applied cells pc (does 0 (load local)) slots)
   load_high pc local v e room =
       laid_high c _ _ (load_is pc local v e) (h + 1) (set c h v) (sym (top_length v)) (omega (arith, top_length v))

@@ -16,7 +16,7 @@ ghost use Rattle.instruction.specs.Code.{effect_from};
 ghost use Rattle.block.specs.Inner.{Clean, Laid, Stepped};
 ghost use Rattle.block.specs.declared.Step.TheVariants.{Goes, Passes};
 
-use cell::{Cell, clear};
+use cell::clear;
 use effects::Model;
 use instruction::Effect;
 use key::Key;
@@ -67,7 +67,7 @@ fn push_load(stack: &mut [u64], height: usize, pc: usize, local: usize) -> Heigh
     ensures { Laid stack.old result stack.new
         (applied cells pc (does 0 (load_push local)) (take height stack.old)) }
 {
-    let Cell::Held(cell) = cell::pack(pc, local) else {
+    let Some(cell) = cell::pack(pc, local) else {
         return Height::Refused;
     };
     if stack.len() <= height {

@@ -1,5 +1,6 @@
 -- How long the action and the cause of a message are, where the members and the records are no longer than a case can be.
 -- Assumes nothing.
+use Rattle.std.specs.Prelude.{Option, None, Some}
 use Prim.Native.Nat.{ℕ, ◌+◌, ◌*◌, ◌≤◌}
 use native.Mathlib.Nat.{mul-le-mul}
 use native.Mathlib.Omega.{arith}
@@ -7,6 +8,7 @@ use mathlib.Core.Bool.{Bool}
 use mathlib.Core.List.{List, ◌++◌}
 use lib.Dec.{lit≤}
 use lib.ListN.{length, length-append}
+use Rattle.cell.specs.declared.Load.{Load}
 use Rattle.basics.specs.Ascii.{ascii}
 use Rattle.items.specs.Text.{after_text, class_of, name_of, descriptor_of}
 use Rattle.lookup.specs.Lookup.{member_found}
@@ -14,8 +16,6 @@ use Rattle.casefile.specs.Whole.{longest}
 use Rattle.classname.specs.ClassName.{class_name}
 use Rattle.names.specs.Names.{parameter_names}
 use Rattle.locals.specs.Name.{local_name}
-use Rattle.cell.specs.declared.Slot.{Slot}
-use Rattle.cell.specs.declared.Slot.TheVariants.{Other, Loaded}
 use Rattle.fault.specs.declared.Action.{Action}
 use Rattle.fault.specs.declared.Action.TheVariants.{ReadField, AssignField, Invoke, LoadArray, StoreArray, ReadLength, ThrowException, EnterBlock, ExitBlock}
 use Rattle.action.specs.Action.{action_text}
@@ -123,15 +123,15 @@ action_within wording members count ExitBlock short = lit≤ tt
 -- ---- the cause
 
 pub cause_within :
-    (cause : Slot) (records : List ℕ) (count : ℕ) (signature : List ℕ) (instance : Bool) →
+    (cause : Option Load) (records : List ℕ) (count : ℕ) (signature : List ℕ) (instance : Bool) →
     Within (length records + 70) (cause_text cause records count signature instance)
 unfolding cause_text
-cause_within Other records count signature instance = none_within (length records + 70)
-cause_within (Loaded load local) records count signature instance =
-    let name = local_name records count signature instance local load in
+cause_within None records count signature instance = none_within (length records + 70)
+cause_within (Some l) records count signature instance =
+    let name = local_name records count signature instance l.local l.load in
     omega (
       arith,
       length-append (ascii " because \"" ++ name) (ascii "\" is null"),
       length-append (ascii " because \"") name,
-      local_within records count signature instance local load,
+      local_within records count signature instance l.local l.load,
     )

@@ -1,12 +1,14 @@
 -- A code of n bytes has at most n instructions, and a walk to a fault completes at most as many as the fault's index. So the counts
 -- of a case are small.
 -- Assumes nothing.
+use Rattle.std.specs.Prelude.{Option, None, Some}
 use Prim.Native.Nat.{ℕ, zero, suc, ◌+◌, ◌-◌, ◌≤◌}
 use native.Mathlib.Omega.{arith}
 use mathlib.Core.Path.{◌≡◌, refl}
 use mathlib.Core.List.{List, [], ◌∷◌}
 use lib.Dec.{eqb, leb, ltb, lit≤}
 use lib.ListN.{length}
+use Rattle.cell.specs.declared.Load.{Load}
 use Rattle.basics.proofs.Choice.{chosen}
 use Rattle.bytecode.specs.Length.{length_of}
 use Rattle.bytecode.specs.declared.Measure.{Measure}
@@ -27,8 +29,6 @@ use Rattle.effects.specs.Rows.{Row, rows_of}
 use Rattle.effects.specs.declared.Model.{Model}
 use Rattle.walk.specs.Room.{Completed, Roomed, lacks, fits, judged, completed, block_walk_in}
 use Rattle.walk.specs.Walk.{Marks, cells, Outcome, stops, goes, passes, Walked, done, failed, count_of as block_count, overshot, ended, after, step, walk_from, walk}
-use Rattle.cell.specs.declared.Slot.{Slot}
-use Rattle.cell.specs.declared.Slot.TheVariants.{Other, Loaded}
 use Rattle.fault.specs.Decoding.{decoded}
 use Rattle.fault.specs.declared.Fault.{Fault}
 use Rattle.fault.specs.declared.Fault.TheVariants.{Failed, Nothing}
@@ -159,9 +159,9 @@ module _ (manner : Manner) (p : Parts) (laid : LaidOut p) (room : ℕ) where
   unfolding said_in
   said_small = by_fault (decoded p.code p.members p.member_count p.fault)
     where
-      kind_small : (cause : Slot) → kind_of cause ≤ 2
-      kind_small Other = lit≤ tt
-      kind_small (Loaded load local) = lit≤ tt
+      kind_small : (cause : Option Load) → kind_of cause ≤ 2
+      kind_small None = lit≤ tt
+      kind_small (Some l) = lit≤ tt
 
       by_fault : (f : Fault) → SmallSaid (said_at manner p room f)
       by_fault Nothing = tt

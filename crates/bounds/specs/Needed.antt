@@ -1,13 +1,13 @@
 -- The "length needed" of answer 4 (document 01, "Numbers returned"): of every case it is the length of the message, in any
 -- wording.
 -- Assumes nothing.
-use Rattle.std.specs.Prelude.{ℕ, ◌≤◌, ◌≡◌, List, length}
+use Rattle.std.specs.Prelude.{ℕ, ◌≤◌, ◌≡◌, List, length, Option}
+use Rattle.cell.specs.declared.Load.{Load}
 use Rattle.casefile.specs.Parts.{Parts, parts_of}
 use Rattle.casefile.specs.Whole.{longest, case_of}
 use Rattle.casefile.specs.declared.Case.TheVariants as cases
 use Rattle.casefile.specs.declared.Places.{Places}
 use Rattle.text.specs.Writing.{most}
-use Rattle.cell.specs.declared.Slot.{Slot}
 use Rattle.fault.specs.declared.Action.{Action}
 use Rattle.answer.specs.Answer.{needed}
 use Rattle.report.specs.Report.{message_of}
@@ -17,10 +17,10 @@ use Rattle.words.specs.declared.Wording.{Wording}
 abbrev pub MessageShort : Type 0
 MessageShort =
     (p : Parts) → length p.members ≤ longest → length p.records ≤ longest →
-    (wording : Wording) (action : Action) (cause : Slot) → length (message_of wording p action cause) ≤ most
+    (wording : Wording) (action : Action) (cause : Option Load) → length (message_of wording p action cause) ≤ most
 
 -- "length needed": of a case's message it is the length itself
 abbrev pub NeededIsLength : Type 0
 NeededIsLength =
-    (bytes : List ℕ) (places : Places) → case_of bytes ≡ cases.Parts places → (wording : Wording) (action : Action) (cause : Slot) →
+    (bytes : List ℕ) (places : Places) → case_of bytes ≡ cases.Parts places → (wording : Wording) (action : Action) (cause : Option Load) →
     needed (message_of wording (parts_of bytes places) action cause) ≡ length (message_of wording (parts_of bytes places) action cause)

@@ -2,12 +2,9 @@
 -- 65,535 beside the load index, so the cell becomes 1 + 65,536 * load index + local for every part that reads one" (document 02,
 -- request 7).
 -- Assumes nothing.
-use Rattle.std.specs.Prelude.{ℕ, ◌+◌, ◌-◌, ◌*◌, ◌/◌, ◌%◌, ◌^◌, Bool, eqb, leb}
+use Rattle.std.specs.Prelude.{ℕ, ◌+◌, ◌-◌, ◌*◌, ◌/◌, ◌%◌, ◌^◌, Bool, eqb, leb, Option, Some, None}
 use Rattle.basics.specs.Choice.{pick}
-use Rattle.cell.specs.declared.Cell.{Cell}
-use Rattle.cell.specs.declared.Cell.TheVariants.{Held, TooLarge}
-use Rattle.cell.specs.declared.Slot.{Slot}
-use Rattle.cell.specs.declared.Slot.TheVariants.{Other, Loaded}
+use Rattle.cell.specs.declared.Load.{Load}
 
 -- of a load, by its index and its local
 abbrev pub cell_of : ℕ → ℕ → ℕ
@@ -17,9 +14,13 @@ cell_of load local = 1 + 65536 * load + local
 abbrev pub has_cell : ℕ → ℕ → Bool
 has_cell load local = leb (cell_of load local) (2 ^ 64 - 1)
 
-abbrev pub packed : ℕ → ℕ → Cell
-packed load local = pick (has_cell load local) (Held (cell_of load local)) TooLarge
+abbrev pub packed : ℕ → ℕ → Option ℕ
+packed load local = pick (has_cell load local) (Some (cell_of load local)) None
 
--- what a cell holds
-abbrev pub unpacked : ℕ → Slot
-unpacked cell = pick (eqb cell 0) Other (Loaded ((cell - 1) / 65536) ((cell - 1) % 65536))
+-- a cell holds a load, by its index and its local
+abbrev pub some_load : ℕ → ℕ → Option Load
+some_load load local = Some (record { load = load; local = local })
+
+-- what a cell holds: a load, or nothing where it is an opaque slot's
+abbrev pub unpacked : ℕ → Option Load
+unpacked cell = pick (eqb cell 0) None (some_load ((cell - 1) / 65536) ((cell - 1) % 65536))

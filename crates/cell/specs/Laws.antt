@@ -1,10 +1,8 @@
 -- A cell loses nothing: it tells the load that it is of, or that it is of none.
 -- Proved in proofs/Laws.antt.
 -- Assumes nothing.
-use Rattle.std.specs.Prelude.{ℕ, ◌<◌, ◌≡◌}
-use Rattle.cell.specs.Cell.{cell_of, packed, unpacked}
-use Rattle.cell.specs.declared.Cell.TheVariants.{Held}
-use Rattle.cell.specs.declared.Slot.TheVariants.{Other, Loaded}
+use Rattle.std.specs.Prelude.{ℕ, ◌<◌, ◌≡◌, Some, None}
+use Rattle.cell.specs.Cell.{cell_of, packed, some_load, unpacked}
 
 -- one cell for one load of a local below 65,536
 abbrev pub CellInjective : Type 0
@@ -20,19 +18,19 @@ NoLoadIsZero = (load local : ℕ) → cell_of load local ≡ 0 → ⊥
 
 -- the cell of a load, whose local is a 16-bit number, unpacks to that load
 abbrev pub LoadUnpacks : Type 0
-LoadUnpacks = (load local : ℕ) → local < 65536 → unpacked (cell_of load local) ≡ Loaded load local
+LoadUnpacks = (load local : ℕ) → local < 65536 → unpacked (cell_of load local) ≡ some_load load local
 
 -- so does the cell that `pack` hands out
 abbrev pub PackedUnpacks : Type 0
-PackedUnpacks = (load local cell : ℕ) → local < 65536 → packed load local ≡ Held cell → unpacked cell ≡ Loaded load local
+PackedUnpacks = (load local cell : ℕ) → local < 65536 → packed load local ≡ Some cell → unpacked cell ≡ some_load load local
 
 -- a cell that unpacks to a load is the cell of it
 abbrev pub CellOfUnpacked : Type 0
-CellOfUnpacked = (cell load local : ℕ) → unpacked cell ≡ Loaded load local → (cell ≡ cell_of load local) × (local < 65536)
+CellOfUnpacked = (cell load local : ℕ) → unpacked cell ≡ some_load load local → (cell ≡ cell_of load local) × (local < 65536)
 
 -- zero, and nothing else, is an opaque slot
 abbrev pub ZeroIsOther : Type 0
-ZeroIsOther = unpacked 0 ≡ Other
+ZeroIsOther = unpacked 0 ≡ None
 
 abbrev pub OtherIsZero : Type 0
-OtherIsZero = (cell : ℕ) → unpacked cell ≡ Other → cell ≡ 0
+OtherIsZero = (cell : ℕ) → unpacked cell ≡ None → cell ≡ 0

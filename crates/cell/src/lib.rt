@@ -5,55 +5,35 @@
 ghost use Rattle.std.specs.Prelude.{◌≡◌, length, replicate};
 ghost use Rattle.cell.specs.Cell.{packed, unpacked};
 
-// A load as a cell.
+// A load: the index of its instruction, and the local.
 #[derive(Clone, Copy)]
-pub enum Cell {
-    Held(u64),
-    TooLarge,
+pub struct Load {
+    pub load: usize,
+    pub local: usize,
 }
 
-// What a cell holds.
-#[derive(Clone, Copy)]
-pub enum Slot {
-    Other,
-    Loaded { load: usize, local: usize },
-}
-
-// The cell of a load. The greatest cell is 2^64 - 1.
-pub fn pack(load: usize, local: usize) -> Cell
+// The cell of a load, where it has one: the greatest cell is 2^64 - 1.
+pub fn pack(load: usize, local: usize) -> Option<u64>
     ensures { result ≡ packed load local }
 {
-    let most: usize = 18446744073709551614;
-    if most < local {
-        return Cell::TooLarge;
-    }
-    if (most - local) / 65536 < load {
-        return Cell::TooLarge;
-    }
-    Cell::Held((1 + 65536 * load + local) as u64)
+    let cell = load.checked_mul(65536)?.checked_add(local)?.checked_add(1)?;
+    Some(cell as u64)
 }
 
-// The load of a cell.
-pub fn unpack(cell: u64) -> Slot
+// The load that a cell holds, or None of an opaque slot.
+pub fn unpack(cell: u64) -> Option<Load>
     ensures { result ≡ unpacked cell }
 {
-    if cell == 0 {
-        return Slot::Other;
-    }
-    let rest = (cell - 1) as usize;
-    Slot::Loaded {
+    let rest = cell.checked_sub(1)? as usize;
+    Some(Load {
         load: rest / 65536,
         local: rest % 65536,
-    }
+    })
 }
 
 // Zeroes the lent cells.
 pub fn clear(stack: &mut [u64])
     ensures { stack.new ≡ replicate (length stack.old) 0 }
 {
-    let mut i = 0;
-    while i < stack.len() {
-        stack[i] = 0;
-        i += 1;
-    }
+    stack.fill(0);
 }

@@ -9,7 +9,7 @@ ghost use Rattle.answer.specs.Answer.{Delivered};
 ghost use Rattle.classmessage.specs.Message.{longest_record, longest_texts, found_count, record_by, texts_bytes, LaidIn, said_from};
 
 use answer::{Report, write_message};
-use cell::Slot;
+use cell::Load;
 use citedfault::run_count;
 use citing::put_cited_at;
 use classtexts::{put_record_at, put_signature_at};
@@ -37,7 +37,7 @@ pub struct Texts {
 #[derive(Clone, Copy)]
 pub struct Failure {
     pub action: Action,
-    pub cause: Slot,
+    pub cause: Option<Load>,
     pub instance: bool,
     pub scan: usize,
     pub block: usize,

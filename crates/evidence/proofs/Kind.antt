@@ -1,5 +1,6 @@
 -- The kind of a message is 2 exactly where a cause is given, and else 1.
 -- Assumes nothing.
+use Rattle.std.specs.Prelude.{Option, None, Some}
 use Prim.Native.Nat.{ℕ, ◌-◌}
 use native.Mathlib.Omega.{arith}
 use mathlib.Core.Path.{◌≡◌, refl, ◌∙◌, sym, ap}
@@ -14,10 +15,9 @@ use Rattle.leader.specs.declared.Scan.{Scan}
 use Rattle.leader.specs.declared.Scan.TheVariants.{Leader, Unmeasured}
 use Rattle.casefile.specs.Parts.{Parts}
 use Rattle.cell.specs.Cell.{unpacked}
+use Rattle.cell.specs.declared.Load.{Load}
 use Rattle.walk.specs.Room.{Roomed, lacks, fits, block_walk_in}
 use Rattle.walk.specs.Walk.{done, failed}
-use Rattle.cell.specs.declared.Slot.{Slot}
-use Rattle.cell.specs.declared.Slot.TheVariants.{Other, Loaded}
 use Rattle.fault.specs.Decoding.{decoded}
 use Rattle.fault.specs.declared.Action.{Action}
 use Rattle.fault.specs.declared.Fault.{Fault}
@@ -45,15 +45,15 @@ module _ (manner : Manner) (p : Parts) (room : ℕ) (message : List ℕ) (scan b
       module _ (slots : List ℕ) (count : ℕ)
           (walks :
           block_walk_in manner.model p.code p.members p.member_count leader p.fault room ≡ fits (done slots count)) where
-        abbrev found : Slot
+        abbrev found : Option Load
         found = unpacked (get_or slots (length slots - 1 - depth) 0)
 
         by_slot :
-            (slot : Slot) → found ≡ slot → ltb depth (length slots) ≡ true →
+            (slot : Option Load) → found ≡ slot → ltb depth (length slots) ≡ true →
             Two (said (message_of manner.wording p action slot) (kind_of slot) scanned count) → CausedIn manner p room message scan block
-        by_slot Other e high told = let z : ◌≡◌ {A = ℕ} 1 2 = cc in absurd (omega arith)
-        by_slot (Loaded load local) e high told =
-            let words : message_of manner.wording p action (Loaded load local) ≡ message = cc in
+        by_slot None e high told = let z : ◌≡◌ {A = ℕ} 1 2 = cc in absurd (omega arith)
+        by_slot (Some l) e high told =
+            let words : message_of manner.wording p action (Some l) ≡ message = cc in
             let scans : scanned ≡ scan = cc in
             let counts : count ≡ block = cc in
             record {
@@ -61,8 +61,8 @@ module _ (manner : Manner) (p : Parts) (room : ℕ) (message : List ℕ) (scan b
               depth = depth;
               leader = leader;
               slots = slots;
-              load = load;
-              local = local;
+              load = l.load;
+              local = l.local;
               decodes = decodes;
               leads = leads ∙ ap (Leader leader) scans;
               walks = walks ∙ ap (λ (n : ℕ). fits (done slots n)) counts;
@@ -73,7 +73,7 @@ module _ (manner : Manner) (p : Parts) (room : ℕ) (message : List ℕ) (scan b
 
         by_height :
             (b : Bool) → ltb depth (length slots) ≡ b →
-            Two (said (message_of manner.wording p action (pick b found Other)) (kind_of (pick b found Other)) scanned count) →
+            Two (said (message_of manner.wording p action (pick b found None)) (kind_of (pick b found None)) scanned count) →
             CausedIn manner p room message scan block
         by_height true e told = by_slot found refl e told
         by_height false e told = let z : ◌≡◌ {A = ℕ} 1 2 = cc in absurd (omega arith)
@@ -123,7 +123,7 @@ kind_two = kind_two_in document_manner
 -- a message without a cause is the action
 pub plain :
     (wording : Wording) (p : Parts) (action : Action) →
-    message_of wording p action Other ≡ action_text wording p.members p.member_count action
+    message_of wording p action None ≡ action_text wording p.members p.member_count action
 unfolding message_of message_text cause_text
 plain wording p action = append-nil (action_text wording p.members p.member_count action)
 
@@ -134,13 +134,13 @@ module _ (manner : Manner) (p : Parts) (room : ℕ) (message : List ℕ) (kind s
   module _ (action : Action) (depth : ℕ)
       (decodes : decoded p.code p.members p.member_count p.fault ≡ Failed action depth) where
     by_cause :
-        (cause : Slot) (scanned count : ℕ) →
+        (cause : Option Load) (scanned count : ℕ) →
         said (message_of manner.wording p action cause) (kind_of cause) scanned count ≡ said message kind scan block → Kinds
-    by_cause Other scanned count told =
+    by_cause None scanned count told =
         let one : kind ≡ 1 = cc in
-        let same : message ≡ message_of manner.wording p action Other = cc in
+        let same : message ≡ message_of manner.wording p action None = cc in
         inl (one, record { action = action; depth = depth; decodes = decodes; words = same ∙ plain manner.wording p action })
-    by_cause (Loaded load local) scanned count told = inr cc
+    by_cause (Some l) scanned count told = inr cc
 
     by_trace : (trace : Trace) → said_by manner.wording p action trace ≡ said message kind scan block → Kinds
     by_trace (NoRoom index) told = let z : ◌≡◌ {A = ℕ} 0 1 = cc in absurd (omega arith)

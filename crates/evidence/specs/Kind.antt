@@ -4,10 +4,9 @@
 use Rattle.std.specs.Prelude.{ℕ, ◌-◌, ◌<◌, ◌≡◌, List, ◌⊎◌, length, get_or}
 use Rattle.leader.specs.declared.Scan.TheVariants.{Leader}
 use Rattle.casefile.specs.Parts.{Parts}
-use Rattle.cell.specs.Cell.{unpacked}
+use Rattle.cell.specs.Cell.{some_load, unpacked}
 use Rattle.walk.specs.Room.{fits, block_walk_in}
 use Rattle.walk.specs.Walk.{done}
-use Rattle.cell.specs.declared.Slot.TheVariants.{Loaded}
 use Rattle.fault.specs.Decoding.{decoded}
 use Rattle.fault.specs.declared.Action.{Action}
 use Rattle.fault.specs.declared.Fault.TheVariants.{Failed}
@@ -35,8 +34,8 @@ pub record CausedIn (manner : Manner) (p : Parts) (room : ℕ) (message : List �
   -- "its height exceeds the depth"
   pub high : depth < length slots
   -- "the slot at that depth from the top is a load"
-  pub slot : unpacked (get_or slots (length slots - 1 - depth) 0) ≡ Loaded load local
-  pub words : message ≡ message_of manner.wording p action (Loaded load local)
+  pub slot : unpacked (get_or slots (length slots - 1 - depth) 0) ≡ some_load load local
+  pub words : message ≡ message_of manner.wording p action (some_load load local)
 
 -- in both directions, for the parts of any case and any room
 pub record KindTwoIn (manner : Manner) : Type 0 where

@@ -6,7 +6,7 @@ ghost use Rattle.message.specs.Message.{cause_text, message_text};
 ghost use Rattle.text.specs.Writing.{Written};
 
 use action::put_action_at;
-use cell::Slot;
+use cell::Load;
 use fault::Action;
 use text::put_at;
 use words::Wording;
@@ -15,7 +15,7 @@ use words::Wording;
 fn put_cause_at(
     out: &mut [u8],
     at: usize,
-    cause: Slot,
+    cause: Option<Load>,
     records: &[u8],
     count: usize,
     signature: &[u8],
@@ -23,16 +23,14 @@ fn put_cause_at(
 ) -> usize
     ensures { Written at (cause_text cause records.now count signature.now instance) out.old result out.new }
 {
-    match cause {
-        Slot::Other => at,
-        Slot::Loaded { load, local } => {
-            let start = put_at(out, at, b" because \"");
-            let end = locals::describe_local(
-                out, start, records, count, signature, instance, local, load,
-            );
-            put_at(out, end, b"\" is null")
-        }
-    }
+    let Some(Load { load, local }) = cause else {
+        return at;
+    };
+    let start = put_at(out, at, b" because \"");
+    let end = locals::describe_local(
+        out, start, records, count, signature, instance, local, load,
+    );
+    put_at(out, end, b"\" is null")
 }
 
 // Writes the message in a wording from a place on. Answers the place after it.
@@ -43,7 +41,7 @@ pub fn put_message_at(
     members: &[u8],
     member_count: usize,
     action: Action,
-    cause: Slot,
+    cause: Option<Load>,
     records: &[u8],
     record_count: usize,
     signature: &[u8],

@@ -1,15 +1,15 @@
 -- Whether there is a message, its action and its scan count do not depend on the model, and the full model drops no cause.
 -- Assumes nothing.
+use Rattle.std.specs.Prelude.{Option, None, Some}
 use Prim.Native.Nat.{ℕ, ◌≤◌}
 use native.Mathlib.Omega.{arith}
 use mathlib.Core.Path.{◌≡◌, refl, ◌∙◌, sym, ap}
 use mathlib.Core.List.{List}
 use lib.Dec.{lit≤}
+use Rattle.cell.specs.declared.Load.{Load}
 use Rattle.leader.specs.declared.Scan.{Scan}
 use Rattle.leader.specs.declared.Scan.TheVariants.{Leader, Unmeasured}
 use Rattle.casefile.specs.Parts.{Parts}
-use Rattle.cell.specs.declared.Slot.{Slot}
-use Rattle.cell.specs.declared.Slot.TheVariants.{Other, Loaded}
 use Rattle.walk.specs.Room.{Roomed, lacks, fits, block_walk_in}
 use Rattle.walk.specs.Walk.{done, failed}
 use Rattle.fault.specs.declared.Action.{Action}
@@ -53,7 +53,7 @@ module _ (p : Parts) (manner : Manner) (room : ℕ) where
 -- ---- a message
 
 walk_scans :
-    (scan depth : ℕ) (walked : Roomed ℕ) (s block : ℕ) (cause : Slot) → trace_of scan depth walked ≡ Traced s block cause →
+    (scan depth : ℕ) (walked : Roomed ℕ) (s block : ℕ) (cause : Option Load) → trace_of scan depth walked ≡ Traced s block cause →
     s ≡ scan
 walk_scans scan depth (lacks index) s block cause e = let z : ◌≡◌ {A = ℕ} 0 1 = cc in absurd (omega arith)
 walk_scans scan depth (fits (failed count index reason)) s block cause e = cc
@@ -65,14 +65,14 @@ module _ (manner : Manner) (p : Parts) (room : ℕ) (message : List ℕ) (kind s
     pub action : Action
     depth : ℕ
     decodes : fault p ≡ Failed action depth
-    pub cause : Slot
+    pub cause : Option Load
     pub words : message ≡ message_of manner.wording p action cause
     kinds : kind ≡ kind_of cause
     scans : scan ≡ scanned (scan_of p)
 
   module _ (action : Action) (depth : ℕ) (decodes : fault p ≡ Failed action depth) where
     trace_scans :
-        (x : Scan) (s count : ℕ) (cause : Slot) →
+        (x : Scan) (s count : ℕ) (cause : Option Load) →
         traced_by manner.model p.code p.members p.member_count p.fault depth room x ≡ Traced s count cause →
         s ≡ scanned x
     trace_scans (Leader leader seen) s count cause e =
@@ -109,9 +109,9 @@ module _ (manner : Manner) (p : Parts) (room : ℕ) (message : List ℕ) (kind s
 
 -- ---- the two messages
 
-kind_some : (cause : Slot) → 1 ≤ kind_of cause
-kind_some Other = lit≤ tt
-kind_some (Loaded load local) = lit≤ tt
+kind_some : (cause : Option Load) → 1 ≤ kind_of cause
+kind_some None = lit≤ tt
+kind_some (Some l) = lit≤ tt
 
 module _ (w : Wording) (p : Parts) (room room' : ℕ) (message message' : List ℕ) (kind kind' scan scan' block block' : ℕ)
     (told : said_in (old w) p room ≡ said message kind scan block)
@@ -125,9 +125,9 @@ module _ (w : Wording) (p : Parts) (room room' : ℕ) (message message' : List �
       sym (same_cause w p room room' message scan block (told ∙ rw two) roomy) ∙ told' in
       cc
 
-  never-back : (cause cause' : Slot) → kind ≡ kind_of cause → kind' ≡ kind_of cause' → kind ≤ kind'
-  never-back Other cause' e e' = omega (arith, e, e', kind_some cause')
-  never-back (Loaded load local) cause' e e' = omega (arith, e, kept e)
+  never-back : (cause cause' : Option Load) → kind ≡ kind_of cause → kind' ≡ kind_of cause' → kind ≤ kind'
+  never-back None cause' e e' = omega (arith, e, e', kind_some cause')
+  never-back (Some l) cause' e e' = omega (arith, e, kept e)
 
   same_action : SameAction w p message message' kind kind' scan scan'
   same_action =

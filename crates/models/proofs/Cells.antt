@@ -1,6 +1,7 @@
 -- A walk and a report in document 01's model are what they would be by document 01's cells: the walks go alike, and slots that hold the
 -- same give one cause.
 -- Assumes nothing.
+use Rattle.std.specs.Prelude.{None}
 use Prim.Native.Nat.{ℕ, ◌-◌, ◌^◌, ◌≤◌, ◌<◌}
 use native.Mathlib.Omega.{arith}
 use mathlib.Core.Path.{◌≡◌, refl, ◌∙◌, sym, ap}
@@ -22,7 +23,6 @@ use Rattle.casefile.specs.declared.Case.TheVariants as cases
 use Rattle.casefile.specs.declared.Places.{Places}
 use Rattle.cases.proofs.Declared.{fits_of}
 use Rattle.cell.specs.Cell.{unpacked}
-use Rattle.cell.specs.declared.Slot.TheVariants.{Other}
 use Rattle.effects.specs.Lookup.{lookup_in}
 use Rattle.effects.specs.Rows.{row_of}
 use Rattle.effects.specs.declared.Model.TheVariants.{Document}
@@ -52,8 +52,8 @@ slot_same {former} {slots} each depth = rw (each_length each) (by_test (ltb dept
   where
     by_test :
         (b : Bool) → ltb depth (length slots) ≡ b →
-        pick b (unpacked (get_or slots (length slots - 1 - depth) 0)) Other
-        ≡ pick b (document_unpacked (get_or former (length slots - 1 - depth) 0)) Other
+        pick b (unpacked (get_or slots (length slots - 1 - depth) 0)) None
+        ≡ pick b (document_unpacked (get_or former (length slots - 1 - depth) 0)) None
     by_test true e =
         let inside : length slots - 1 - depth < length former = omega (arith, each_length each, ltb-true depth (length slots) e) in
         sym (each_at each (length slots - 1 - depth) inside 0 0)

@@ -2,7 +2,8 @@
 -- answers and writes, is what it would be by document 01's cells. That this model goes by opcodes alone, as before the request, is
 -- `ByOpcode` of crates/effects/specs/Agreement.antt. proofs/Cells.antt has the proof.
 -- Assumes nothing.
-use Rattle.std.specs.Prelude.{ℕ, ◌-◌, ◌^◌, ◌≤◌, ◌≡◌, List, ltb, length, get_or}
+use Rattle.std.specs.Prelude.{ℕ, ◌-◌, ◌^◌, ◌≤◌, ◌≡◌, List, ltb, length, get_or, Option, None}
+use Rattle.cell.specs.declared.Load.{Load}
 use Rattle.basics.specs.Bytes.{AreBytes}
 use Rattle.basics.specs.Choice.{pick}
 use Rattle.leader.specs.declared.Scan.{Scan}
@@ -11,8 +12,6 @@ use Rattle.casefile.specs.Parts.{Parts, parts_of}
 use Rattle.casefile.specs.Whole.{case_of}
 use Rattle.casefile.specs.declared.Case.{Case}
 use Rattle.casefile.specs.declared.Case.TheVariants as cases
-use Rattle.cell.specs.declared.Slot.{Slot}
-use Rattle.cell.specs.declared.Slot.TheVariants.{Other}
 use Rattle.effects.specs.Lookup.{lookup_in}
 use Rattle.effects.specs.Rows.{row_of}
 use Rattle.effects.specs.declared.Model.TheVariants.{Document}
@@ -38,18 +37,18 @@ former_walk code members count leader fault room =
     judged room (completed document_cells row_of (lookup_in members count) code fault leader)
     (walk document_cells row_of (lookup_in members count) code fault leader)
 
-abbrev pub former_slot : List ℕ → ℕ → Slot
-former_slot slots depth = pick (ltb depth (length slots)) (document_unpacked (get_or slots (length slots - 1 - depth) 0)) Other
+abbrev pub former_slot : List ℕ → ℕ → Option Load
+former_slot slots depth = pick (ltb depth (length slots)) (document_unpacked (get_or slots (length slots - 1 - depth) 0)) None
 
 abbrev pub former_trace : ℕ → ℕ → Roomed ℕ → Trace
 former_trace scan depth (lacks index) = NoRoom index
-former_trace scan depth (fits (failed block index reason)) = Traced scan block Other
+former_trace scan depth (fits (failed block index reason)) = Traced scan block None
 former_trace scan depth (fits (done slots block)) = Traced scan block (former_slot slots depth)
 
 abbrev pub former_traced : Parts → ℕ → ℕ → Scan → Trace
 former_traced p depth room (Leader leader scan) =
     former_trace scan depth (former_walk p.code p.members p.member_count leader p.fault room)
-former_traced p depth room (Unmeasured at scan) = Traced scan 0 Other
+former_traced p depth room (Unmeasured at scan) = Traced scan 0 None
 
 abbrev pub former_said_at : Wording → Parts → ℕ → Fault → Said
 former_said_at w p room Nothing = silent

@@ -3,14 +3,14 @@
 -- that it does not model. So the reports differ only there; a cause is the same, and with as many cells lent the full model has room
 -- for it too. All of it in either wording (request 11). proofs/ has a proof of each statement.
 -- Assumes nothing.
-use Rattle.std.specs.Prelude.{ℕ, ◌≤◌, ◌≡◌, List, length}
+use Rattle.std.specs.Prelude.{ℕ, ◌≤◌, ◌≡◌, List, length, Option}
+use Rattle.cell.specs.declared.Load.{Load}
 use Rattle.text.specs.Writing.{over}
 use Rattle.leader.specs.declared.Scan.TheVariants.{Leader}
 use Rattle.casefile.specs.Parts.{Parts, parts_of}
 use Rattle.casefile.specs.Whole.{case_of}
 use Rattle.casefile.specs.declared.Case.TheVariants as cases
 use Rattle.casefile.specs.declared.Places.{Places}
-use Rattle.cell.specs.declared.Slot.{Slot}
 use Rattle.effects.specs.Lookup.{lookup_in}
 use Rattle.effects.specs.Rows.{row_of}
 use Rattle.effects.specs.declared.Model.TheVariants.{Document, Full}
@@ -98,8 +98,8 @@ pub record SameAction (w : Wording) (p : Parts) (message message' : List ℕ) (k
   pub action : Action
   pub depth : ℕ
   pub decodes : decoded p.code p.members p.member_count p.fault ≡ Failed action depth
-  pub cause : Slot
-  pub cause' : Slot
+  pub cause : Option Load
+  pub cause' : Option Load
   pub words : message ≡ message_of w p action cause
   pub words' : message' ≡ message_of w p action cause'
   pub kinds : kind ≡ kind_of cause

@@ -1,6 +1,6 @@
 // Rows on code: lengths, leaders and walks.
 use bytecode::Measure;
-use cell::Slot;
+use cell::Load;
 use effects::Model;
 use leader::Scan;
 use notation::first_numbers;
@@ -27,15 +27,13 @@ fn leader(code: &[u8], fault: usize) -> Told {
 
 // A cell: 0, or its local and the index of its load.
 fn put_cell(out: &mut [u8], at: usize, cell: u64) -> usize {
-    match cell::unpack(cell) {
-        Slot::Other => put_at(out, at, b" 0"),
-        Slot::Loaded { load, local } => {
-            let a = put_at(out, at, b" a");
-            let number = put_decimal_at(out, a, local);
-            let sign = put_at(out, number, b"@");
-            put_decimal_at(out, sign, load)
-        }
-    }
+    let Some(Load { load, local }) = cell::unpack(cell) else {
+        return put_at(out, at, b" 0");
+    };
+    let a = put_at(out, at, b" a");
+    let number = put_decimal_at(out, a, local);
+    let sign = put_at(out, number, b"@");
+    put_decimal_at(out, sign, load)
 }
 
 fn put_cells(out: &mut [u8], cells: &[u64]) -> usize {

@@ -1,10 +1,11 @@
 -- What is said of parts in a manner, by what their fault decodes to and its trace.
 -- Assumes nothing.
+use Rattle.std.specs.Prelude.{Option}
 use Prim.Native.Nat.{ℕ}
 use mathlib.Core.Bool.{Bool}
 use mathlib.Core.List.{List}
 use mathlib.Core.Path.{◌≡◌}
-use Rattle.cell.specs.declared.Slot.{Slot}
+use Rattle.cell.specs.declared.Load.{Load}
 use Rattle.casefile.specs.Parts.{Parts}
 use Rattle.fault.specs.Decoding.{decoded}
 use Rattle.fault.specs.declared.Action.{Action}
@@ -36,7 +37,7 @@ module _ (manner : Manner) (p : Parts) (room : ℕ) (out : List ℕ) where
     is_roomless index e t = record { answers = rw (e, t); leaves = rw (e, t) }
 
     pub is_said :
-        (scan block : ℕ) (cause : Slot) → decoded p.code p.members p.member_count p.fault ≡ Failed action depth →
+        (scan block : ℕ) (cause : Option Load) → decoded p.code p.members p.member_count p.fault ≡ Failed action depth →
         traced manner.model p.code p.members p.member_count p.fault depth room ≡ Traced scan block cause →
         (instance : Bool) → instance ≡ is_instance p.flags → (answer : Report) (left : List ℕ) →
         Delivered

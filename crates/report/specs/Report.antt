@@ -1,7 +1,8 @@
 -- The report of a case (document 01, "Numbers returned"): its answer, the output and the stack at exit. It is asked for in a manner: the
 -- model of its walk (document 02, request 1) and the wording of its message (request 11).
 -- Assumes nothing.
-use Rattle.std.specs.Prelude.{ℕ, zero, suc, List, []}
+use Rattle.std.specs.Prelude.{ℕ, zero, suc, List, [], Option}
+use Rattle.cell.specs.declared.Load.{Load}
 use Rattle.bytecode.specs.Length.{length_of}
 use Rattle.leader.specs.Scan.{block_leader}
 use Rattle.leader.specs.declared.Scan.{Scan}
@@ -9,7 +10,6 @@ use Rattle.casefile.specs.Parts.{Parts, parts_of}
 use Rattle.casefile.specs.Whole.{case_of}
 use Rattle.casefile.specs.declared.Case.{Case}
 use Rattle.casefile.specs.declared.Case.TheVariants as cases
-use Rattle.cell.specs.declared.Slot.{Slot}
 use Rattle.effects.specs.declared.Model.{Model}
 use Rattle.effects.specs.declared.Model.TheVariants.{Document, Full}
 use Rattle.answer.specs.Answer.{kind_of, Said, silent, roomless, said, answer_by, output_by}
@@ -50,7 +50,7 @@ default_manner = manner_of Document ByteBoolean
 abbrev pub full_manner : Manner
 full_manner = manner_of Full ByteBoolean
 
-unfoldable pub message_of : Wording → Parts → Action → Slot → List ℕ
+unfoldable pub message_of : Wording → Parts → Action → Option Load → List ℕ
 message_of wording p action cause =
     message_text wording p.members p.member_count action cause p.records p.record_count p.signature (is_instance p.flags)
 

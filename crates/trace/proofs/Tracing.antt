@@ -1,5 +1,6 @@
 -- What the walk's answer and its cells tell of the trace.
 -- Assumes nothing.
+use Rattle.std.specs.Prelude.{Option, None}
 use Prim.Native.Nat.{ℕ, ◌+◌, ◌-◌, ◌≤◌, ◌<◌}
 use native.Mathlib.Omega.{arith}
 use mathlib.Core.Bool.{Bool, true, false}
@@ -11,10 +12,9 @@ use lib.Seq.{get_or-take, take_at, drop_at, length-take-le}
 use borrow.Author.Tests.{ltb-true}
 use Rattle.basics.specs.Choice.{pick}
 use Rattle.cell.specs.Cell.{unpacked}
+use Rattle.cell.specs.declared.Load.{Load}
 use Rattle.walk.specs.Room.{Roomed, lacks, fits, answer_of, shown, cells_of}
 use Rattle.walk.specs.Walk.{done, failed}
-use Rattle.cell.specs.declared.Slot.TheVariants.{Other}
-use Rattle.cell.specs.declared.Slot.{Slot}
 use Rattle.walk.specs.declared.Walk.TheVariants.{Done, Failed, NoRoom}
 use Rattle.trace.specs.Trace.{slot_from, trace_of}
 use Rattle.trace.specs.declared.Trace.TheVariants.{NoRoom as LacksRoom, Traced}
@@ -33,12 +33,12 @@ module _ (scan depth room : ℕ) where
 
   pub failing :
       (walked : Roomed ℕ) (block : ℕ) (left : List ℕ) → Failed block ≡ answer_of walked →
-      (Traced scan block Other ≡ trace_of scan depth walked) × Cleared left walked
+      (Traced scan block None ≡ trace_of scan depth walked) × Cleared left walked
   failing (lacks i) block left e = let z : ◌≡◌ {A = ℕ} 0 1 = cc in absurd (omega arith)
   failing (fits (done slots count)) block left e = let z : ◌≡◌ {A = ℕ} 0 1 = cc in absurd (omega arith)
   failing (fits (failed count at reason)) block left e =
       let same : block ≡ count = cc in
-      (ap (λ (k : ℕ). Traced scan k Other) same, λ l. l)
+      (ap (λ (k : ℕ). Traced scan k None) same, λ l. l)
 
   -- the slots of a walk that is done, in the cells that it leaves
   pub record Finished (walked : Roomed ℕ) (height block : ℕ) : Type 0 where
@@ -71,21 +71,21 @@ module _ (scan depth room : ℕ) where
         ap (λ (l : List ℕ). get_or l k 0) left_is ∙ sym (get_or-take (length f.slots) (shown room f.slots) k 0 below)
         ∙ ap (λ (l : List ℕ). get_or l k 0) start
 
-    cause_is : pick (ltb depth height) (unpacked (get_or left (height - 1 - depth) 0)) Other ≡ slot_from f.slots depth
+    cause_is : pick (ltb depth height) (unpacked (get_or left (height - 1 - depth) 0)) None ≡ slot_from f.slots depth
     unfolding slot_from
     cause_is = rw f.high (by_test (ltb depth (length f.slots)) refl)
       where
         by_test :
             (b : Bool) → ltb depth (length f.slots) ≡ b →
-            pick b (unpacked (get_or left (length f.slots - 1 - depth) 0)) Other
-            ≡ pick b (unpacked (get_or f.slots (length f.slots - 1 - depth) 0)) Other
+            pick b (unpacked (get_or left (length f.slots - 1 - depth) 0)) None
+            ≡ pick b (unpacked (get_or f.slots (length f.slots - 1 - depth) 0)) None
         by_test true test =
             let inside : depth < length f.slots = ltb-true depth (length f.slots) test in
             ap unpacked (slot_is (length f.slots - 1 - depth) (omega arith))
         by_test false test = refl
 
     pub traces :
-        (cause : Slot) → cause ≡ pick (ltb depth height) (unpacked (get_or left (height - 1 - depth) 0)) Other →
+        (cause : Option Load) → cause ≡ pick (ltb depth height) (unpacked (get_or left (height - 1 - depth) 0)) None →
         Traced scan block cause ≡ trace_of scan depth walked
     traces cause e = rw f.walked_so (ap (Traced scan block) (e ∙ cause_is))
 

@@ -1,36 +1,35 @@
 -- The cause of a fault, traced over the block that it lies in (document 01, "Action and cause" and "Numbers returned").
 -- Assumes nothing.
-use Rattle.std.specs.Prelude.{ℕ, ◌-◌, List, [], ltb, length, get_or}
+use Rattle.std.specs.Prelude.{ℕ, ◌-◌, List, [], ltb, length, get_or, Option, None}
 use Rattle.basics.specs.Choice.{pick}
 use Rattle.bytecode.specs.Length.{length_of}
 use Rattle.leader.specs.Scan.{block_leader}
 use Rattle.leader.specs.declared.Scan.{Scan}
 use Rattle.leader.specs.declared.Scan.TheVariants.{Leader, Unmeasured}
 use Rattle.cell.specs.Cell.{unpacked}
+use Rattle.cell.specs.declared.Load.{Load}
 use Rattle.effects.specs.declared.Model.{Model}
 use Rattle.walk.specs.Room.{Roomed, lacks, fits, block_walk_in}
 use Rattle.walk.specs.Walk.{done, failed}
-use Rattle.cell.specs.declared.Slot.{Slot}
-use Rattle.cell.specs.declared.Slot.TheVariants.{Other}
 use Rattle.trace.specs.declared.Trace.{Trace}
 use Rattle.trace.specs.declared.Trace.TheVariants.{NoRoom, Traced}
 
 -- the slot so far from the top, where the height exceeds the depth
-unfoldable pub slot_from : List ℕ → ℕ → Slot
-slot_from slots depth = pick (ltb depth (length slots)) (unpacked (get_or slots (length slots - 1 - depth) 0)) Other
+unfoldable pub slot_from : List ℕ → ℕ → Option Load
+slot_from slots depth = pick (ltb depth (length slots)) (unpacked (get_or slots (length slots - 1 - depth) 0)) None
 
 -- "A cause is given exactly when the walk succeeds, its height exceeds the depth, and the slot at that depth from the top is a
 -- load". "Block count: instructions the walk completed".
 abbrev pub trace_of : ℕ → ℕ → Roomed ℕ → Trace
 trace_of scan depth (lacks index) = NoRoom index
-trace_of scan depth (fits (failed block index reason)) = Traced scan block Other
+trace_of scan depth (fits (failed block index reason)) = Traced scan block None
 trace_of scan depth (fits (done slots block)) = Traced scan block (slot_from slots depth)
 
 -- "0 where there is no leader"
 abbrev pub traced_by : Model → List ℕ → List ℕ → ℕ → ℕ → ℕ → ℕ → Scan → Trace
 traced_by model code members count fault depth room (Leader leader scan) =
     trace_of scan depth (block_walk_in model code members count leader fault room)
-traced_by model code members count fault depth room (Unmeasured at scan) = Traced scan 0 Other
+traced_by model code members count fault depth room (Unmeasured at scan) = Traced scan 0 None
 
 -- in a model: the code, so many members, the fault, the depth of its reference, and the cells that are lent
 unfoldable pub traced : Model → List ℕ → List ℕ → ℕ → ℕ → ℕ → ℕ → Trace

@@ -5,10 +5,9 @@ ghost use Rattle.std.specs.Prelude.{◌-◌, ◌≤◌, ◌≡◌, ltb, length, 
 ghost use Rattle.basics.specs.Choice.{pick};
 ghost use Rattle.cell.specs.Cell.{unpacked};
 ghost use Rattle.walk.specs.Room.{block_walk_in};
-ghost use Rattle.cell.specs.declared.Slot.TheVariants.{Other};
 ghost use Rattle.trace.specs.Trace.{trace_of, traced};
 
-use cell::{Slot, clear};
+use cell::{Load, clear};
 use effects::Model;
 use leader::Scan;
 use walk::Walk;
@@ -24,19 +23,19 @@ pub enum Trace {
     Traced {
         scan: usize,
         block: usize,
-        cause: Slot,
+        cause: Option<Load>,
     },
 }
 
 // The slot so far from the top.
-fn slot_from(stack: &[u64], height: usize, depth: usize) -> Slot
+fn slot_from(stack: &[u64], height: usize, depth: usize) -> Option<Load>
     requires { height ≤ length stack.now }
-    ensures { result ≡ pick (ltb depth height) (unpacked (get_or stack.now (height - 1 - depth) 0)) Other }
+    ensures { result ≡ pick (ltb depth height) (unpacked (get_or stack.now (height - 1 - depth) 0)) None }
 {
     if depth < height {
         return cell::unpack(stack[height - 1 - depth]);
     }
-    Slot::Other
+    None
 }
 
 // Walks a block in a model and looks at the slot at the depth. The stack is zero afterwards.
@@ -59,7 +58,7 @@ fn trace_block(
         Walk::Failed { count: block } => Trace::Traced {
             scan,
             block,
-            cause: Slot::Other,
+            cause: None,
         },
         Walk::Done {
             height,
@@ -97,7 +96,7 @@ pub fn trace_cause(
             Trace::Traced {
                 scan,
                 block: 0,
-                cause: Slot::Other,
+                cause: None,
             }
         }
     }

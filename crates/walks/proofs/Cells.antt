@@ -14,8 +14,7 @@ use Rattle.basics.specs.Choice.{pick}
 use Rattle.basics.proofs.Every.{every_at}
 use Rattle.jvms.specs.Stack.{key_at, key_count}
 use Rattle.jvms.proofs.Keys.{key_below}
-use Rattle.cell.specs.Cell.{cell_of, has_cell}
-use Rattle.cell.specs.declared.Slot.TheVariants.{Loaded}
+use Rattle.cell.specs.Cell.{cell_of, has_cell, some_load}
 use Rattle.cell.proofs.Laws.{load_unpacks}
 use Rattle.descriptor.specs.Readers.{parameters, return_slots}
 use Rattle.descriptor.specs.declared.Params.{Params}
@@ -113,7 +112,7 @@ same_cells : (pc local : ℕ) → local < 256 → SameSlot (document_cell pc loc
 same_cells pc local small =
     let high : (document_cell pc local - 1) / 256 ≡ pc = omega arith in
     let low : (document_cell pc local - 1) % 256 ≡ local = omega arith in
-    rw (ne_eqb (document_cell pc local) 0 (λ e. omega (arith, e))) (ap₂ Loaded high low)
+    rw (ne_eqb (document_cell pc local) 0 (λ e. omega (arith, e))) (ap₂ some_load high low)
     ∙ sym (load_unpacks pc local (omega (arith, small)))
 
 same_holds : (pc local : ℕ) → local < 256 → pc < 2 ^ 48 → document_cells.holds pc local ≡ has_cell pc local

@@ -1,12 +1,11 @@
 -- Document 02, request 7, writes cells by 65,536 where document 01 wrote them by 256, and "The old model's answers are unchanged": a
 -- walk in document 01's model goes by both alike. proofs/Cells.antt has the proof.
 -- Assumes nothing.
-use Rattle.std.specs.Prelude.{ℕ, ◌+◌, ◌-◌, ◌*◌, ◌/◌, ◌%◌, ◌^◌, ◌≤◌, ◌≡◌, List, eqb, leb, length}
+use Rattle.std.specs.Prelude.{ℕ, ◌+◌, ◌-◌, ◌*◌, ◌/◌, ◌%◌, ◌^◌, ◌≤◌, ◌≡◌, List, eqb, leb, length, Option, None}
 use Rattle.basics.specs.Bytes.{AreBytes}
 use Rattle.basics.specs.Choice.{pick}
-use Rattle.cell.specs.Cell.{unpacked}
-use Rattle.cell.specs.declared.Slot.{Slot}
-use Rattle.cell.specs.declared.Slot.TheVariants.{Other, Loaded}
+use Rattle.cell.specs.Cell.{some_load, unpacked}
+use Rattle.cell.specs.declared.Load.{Load}
 use Rattle.effects.specs.Lookup.{Lookup}
 use Rattle.effects.specs.Rows.{row_of}
 use Rattle.walk.specs.Room.{completed}
@@ -22,8 +21,8 @@ document_cells =
     record { blank = λ index. 0; mark = document_cell; holds = λ load local. leb (document_cell load local) (2 ^ 64 - 1) }
 
 -- what such a cell holds
-abbrev pub document_unpacked : ℕ → Slot
-document_unpacked cell = pick (eqb cell 0) Other (Loaded ((cell - 1) / 256) ((cell - 1) % 256))
+abbrev pub document_unpacked : ℕ → Option Load
+document_unpacked cell = pick (eqb cell 0) None (some_load ((cell - 1) / 256) ((cell - 1) % 256))
 
 -- a cell of document 01's and one in use hold the same
 abbrev pub SameSlot : ℕ → ℕ → Type 0

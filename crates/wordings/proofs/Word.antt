@@ -1,17 +1,18 @@
 -- Two wordings differ in one word. What fails and its cause are the same; only the words of the action are looked at.
 -- Assumes nothing.
+use Rattle.std.specs.Prelude.{Option}
 use Prim.Native.Nat.{ℕ, zero, suc, ◌+◌, ◌-◌}
 use native.Mathlib.Omega.{arith}
 use mathlib.Core.Path.{◌≡◌, refl, ◌∙◌, sym, ap}
 use mathlib.Core.Bool.{Bool}
 use mathlib.Core.List.{List, ◌++◌}
 use lib.Dec.{eqb}
+use Rattle.cell.specs.declared.Load.{Load}
 use Rattle.basics.specs.Ascii.{ascii}
 use Rattle.basics.specs.Bytes.{u16_at}
 use Rattle.basics.specs.Choice.{pick, both, between}
 use Rattle.basics.proofs.Choice.{chosen}
 use Rattle.casefile.specs.Parts.{Parts}
-use Rattle.cell.specs.declared.Slot.{Slot}
 use Rattle.effects.specs.Depth.{Depth, nowhere, at, depth_of}
 use Rattle.effects.specs.Lookup.{lookup_in}
 use Rattle.effects.specs.declared.Model.{Model}
@@ -35,7 +36,7 @@ use Rattle.models.proofs.Actions.{silent_alike}
 use Rattle.models.proofs.Elsewhere.{fault}
 use Rattle.wordings.specs.Word.{in_wording1, in_wording2, Begins, loading, storing, faulting, ButThatWord, OnlyThatWord}
 
-abbrev cause_of : Parts → Slot → List ℕ
+abbrev cause_of : Parts → Option Load → List ℕ
 cause_of p cause = cause_text cause p.records p.record_count p.signature (is_instance p.flags)
 
 -- ---- at the two opcodes
@@ -45,7 +46,7 @@ record Acts (op : ℕ) (begin : List ℕ) : Type 0 where
   action : Action
   fails : (d : Depth) (b : Bool) (index : ℕ) → pick (both (invokes op) b) Nothing (failed_at d (action_of op index)) ≡ failed_at d action
   words :
-      (w : Wording) (p : Parts) (cause : Slot) → message_of w p action cause ≡ begin ++ (byte_text w ++ ascii " array") ++ cause_of p cause
+      (w : Wording) (p : Parts) (cause : Option Load) → message_of w p action cause ≡ begin ++ (byte_text w ++ ascii " array") ++ cause_of p cause
 
 acts : {op : ℕ} {begin : List ℕ} → Begins op begin → Acts op begin
 unfolding action_of message_of message_text action_text array_text element_text

@@ -2,8 +2,8 @@
 -- Assumes nothing.
 use Rattle.answer.proofs.kind_of.Goals as goal
 
-pub returns-in-Other : goal.returns-in-Other
-returns-in-Other c = rw c.in-Other.is
+pub returns-in-None : goal.returns-in-None
+returns-in-None c = rw c.in-None.is
 
-pub returns-in-Loaded : goal.returns-in-Loaded
-returns-in-Loaded c = rw c.in-Loaded.is
+pub returns-in-Some : goal.returns-in-Some
+returns-in-Some c = rw c.in-Some.is

@@ -14,11 +14,11 @@ returns-in_default c =
 pub returns-then-stack-height : goal.returns-then-stack-height
 returns-then-stack-height c =
     let a = c.args in
-    laying.load_over a.stack.now a.height c.requires a.pc a.local c.in-Held.cell
-    (sym c.pack.ensures ∙ c.in-Held.is) c.if-stack-height.true
+    laying.load_over a.stack.now a.height c.requires a.pc a.local c.in-Some.cell
+    (sym c.pack.ensures ∙ c.in-Some.is) c.if-stack-height.true
 
 pub returns : goal.returns
 returns c =
     let a = c.args in
-    laying.load_high a.stack.now a.height c.requires a.pc a.local c.in-Held.cell
-    (sym c.pack.ensures ∙ c.in-Held.is) (omega arith)
+    laying.load_high a.stack.now a.height c.requires a.pc a.local c.in-Some.cell
+    (sym c.pack.ensures ∙ c.in-Some.is) (omega arith)

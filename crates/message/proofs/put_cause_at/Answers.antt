@@ -5,16 +5,16 @@ use Rattle.message.specs.Message.{cause_text}
 use Rattle.text.proofs.Writing.{written_then, written_none}
 use Rattle.message.proofs.put_cause_at.Goals as goal
 
-pub returns-in-Other : goal.returns-in-Other
+pub returns-in_default : goal.returns-in_default
 unfolding cause_text
-returns-in-Other c =
-    rw c.in-Other.is
+returns-in_default c =
+    rw c.in_default.is
     (written_none c.args.out.now (omega arith))
 
-pub returns-in-Loaded : goal.returns-in-Loaded
+pub returns : goal.returns
 unfolding cause_text
-returns-in-Loaded c =
-    rw c.in-Loaded.is
+returns c =
+    rw c.in-Some.is
     (written_then (omega arith)
     (written_then (omega arith)
     c.put_at-start.ensures
