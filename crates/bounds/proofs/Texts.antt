@@ -12,8 +12,6 @@ use Rattle.basics.specs.Choice.{pick, both}
 use Rattle.basics.proofs.Choice.{chosen}
 use Rattle.basics.proofs.Every.{both_first, both_second}
 use Rattle.items.specs.Text.{text_at, then_text, text_part}
-use Rattle.items.specs.declared.Text.{Text}
-use Rattle.items.specs.declared.Text.TheVariants.{Place, NotText}
 use Rattle.tables.specs.LocalRecord.{records_in}
 use Rattle.tables.specs.Member.{member_at, then_member}
 use Rattle.lookup.specs.Lookup.{texts_of, member_found}
@@ -55,9 +53,9 @@ pub text-within : (bytes : List ℕ) (at : ℕ) → Within (length bytes) (text_
 unfolding text_part
 text-within bytes at = of (text_at bytes at)
   where
-    of : (t : Text) → Within (length bytes) (then_text t [] (λ start size. take size (drop start bytes)))
-    of (Place start size) = part_within size start bytes
-    of NotText = none_within (length bytes)
+    of : (t : Option (ℕ × ℕ)) → Within (length bytes) (then_text t [] (λ start size. take size (drop start bytes)))
+    of (Some (start, size)) = part_within size start bytes
+    of None = none_within (length bytes)
 
 pub found_within :
     (bytes : List ℕ) (index kind count last at : ℕ) → Within (length bytes) (member_found bytes index kind count last at)

@@ -5,7 +5,7 @@
 ghost use Rattle.std.specs.Prelude.{◌≡◌};
 ghost use Rattle.casefile.specs.Whole.{tables_at, case_of};
 
-use items::{Text, read_text};
+use items::read_text;
 use number::case_number;
 
 // The greatest length of a case.
@@ -106,11 +106,11 @@ pub fn read_case(bytes: &[u8]) -> Case
     let Some((fault, code_at)) = case_number(bytes, fault_at) else {
         return Case::Wrong(fault_at);
     };
-    let Text::Place(code, code_length) = read_text(bytes, code_at) else {
+    let Some((code, code_length)) = read_text(bytes, code_at) else {
         return Case::Wrong(code_at);
     };
     let signature_at = code + code_length;
-    let Text::Place(signature, signature_length) = read_text(bytes, signature_at) else {
+    let Some((signature, signature_length)) = read_text(bytes, signature_at) else {
         return Case::Wrong(signature_at);
     };
     let runs = read_tables(bytes, signature + signature_length);

@@ -15,8 +15,6 @@ use Rattle.basics.specs.Bytes.{AreBytes}
 use Rattle.basics.specs.Choice.{pick}
 use Rattle.number.specs.Number.{greatest, number_at, then_number}
 use Rattle.items.specs.Text.{text_at, then_text}
-use Rattle.items.specs.declared.Text.{Text}
-use Rattle.items.specs.declared.Text.TheVariants.{Place, NotText}
 use Rattle.tables.specs.Layout.{Layout, number, sized, may_end, ended, any, members_then, records_then, tables_then, case_layout, run_by, then_run}
 use Rattle.tables.specs.Member.{member_at, then_member}
 use Rattle.tables.specs.LocalRecord.{record_at, then_record}
@@ -95,15 +93,15 @@ module _ (bytes : List ℕ) (are : AreBytes bytes) where
       by_text (text_at bytes at) refl (λ size next there. declares (following size) next there)
     where
       by_text :
-          (t : Text) → text_at bytes at ≡ t →
+          (t : Option (ℕ × ℕ)) → text_at bytes at ≡ t →
           ((size after : ℕ) → Reached bytes (following size) after → Declares (run_by (following size) bytes after)) →
           Declares (then_text t (Err at) (λ begin size. run_by (following size) bytes (begin + size)))
-      by_text (Place begin size) e onward =
+      by_text (Some (begin, size)) e onward =
           let read = text_stands bytes at begin size are e in
           onward size (begin + size)
           (subst₂ (λ (k n : ℕ). Reached bytes (following k) n) read.sized (sym read.ends)
           (after_text _ reached read.fits read.stands))
-      by_text NotText e onward =
+      by_text None e onward =
           record {
             due = sized following;
             reached = reached;
@@ -263,7 +261,7 @@ module _ (bytes : List ℕ) where
       by_tables :
           (flags fault_at fault code_at code code_length signature signature_length : ℕ) →
           number_at greatest bytes 0 ≡ Some (flags, fault_at) → number_at greatest bytes fault_at ≡ Some (fault, code_at) →
-          text_at bytes code_at ≡ Place code code_length → text_at bytes (code + code_length) ≡ Place signature signature_length →
+          text_at bytes code_at ≡ Some (code, code_length) → text_at bytes (code + code_length) ≡ Some (signature, signature_length) →
           (t : Tables) → tables_at bytes (signature + signature_length) ≡ t → CaseRun
       by_tables flags fault_at fault code_at code code_length signature signature_length e f g h (tables.Read places) i =
           rw (e, f, g, h, tables-then ended bytes (signature + signature_length), i)
@@ -274,17 +272,17 @@ module _ (bytes : List ℕ) where
       by_signature :
           (flags fault_at fault code_at code code_length : ℕ) →
           number_at greatest bytes 0 ≡ Some (flags, fault_at) → number_at greatest bytes fault_at ≡ Some (fault, code_at) →
-          text_at bytes code_at ≡ Place code code_length → (t : Text) → text_at bytes (code + code_length) ≡ t → CaseRun
-      by_signature flags fault_at fault code_at code code_length e f g (Place signature n) h =
+          text_at bytes code_at ≡ Some (code, code_length) → (t : Option (ℕ × ℕ)) → text_at bytes (code + code_length) ≡ t → CaseRun
+      by_signature flags fault_at fault code_at code code_length e f g (Some (signature, n)) h =
           by_tables flags fault_at fault code_at code code_length signature n e f g h (tables_at bytes (signature + n)) refl
-      by_signature flags fault_at fault code_at code code_length e f g NotText h = rw (e, f, g, h)
+      by_signature flags fault_at fault code_at code code_length e f g None h = rw (e, f, g, h)
 
       by_code :
           (flags fault_at fault code_at : ℕ) → number_at greatest bytes 0 ≡ Some (flags, fault_at) →
-          number_at greatest bytes fault_at ≡ Some (fault, code_at) → (t : Text) → text_at bytes code_at ≡ t → CaseRun
-      by_code flags fault_at fault code_at e f (Place code code_length) g =
+          number_at greatest bytes fault_at ≡ Some (fault, code_at) → (t : Option (ℕ × ℕ)) → text_at bytes code_at ≡ t → CaseRun
+      by_code flags fault_at fault code_at e f (Some (code, code_length)) g =
           by_signature flags fault_at fault code_at code code_length e f g (text_at bytes (code + code_length)) refl
-      by_code flags fault_at fault code_at e f NotText g = rw (e, f, g)
+      by_code flags fault_at fault code_at e f None g = rw (e, f, g)
 
       by_fault :
           (flags fault_at : ℕ) → number_at greatest bytes 0 ≡ Some (flags, fault_at) →
@@ -364,12 +362,12 @@ module _ (bytes : List ℕ) where
   stops are (sized following) at nothing = by_text (text_at bytes at) refl
     where
       by_text :
-          (t : Text) → text_at bytes at ≡ t →
+          (t : Option (ℕ × ℕ)) → text_at bytes at ≡ t →
           on_run bytes (then_text t (Err at) (λ begin size. run_by (following size) bytes (begin + size))) ≡ wrong_at at
-      by_text (Place begin size) e =
+      by_text (Some (begin, size)) e =
           let read = text_stands bytes at begin size are e in
           absurd (nothing _ read.fits read.stands)
-      by_text NotText e = refl
+      by_text None e = refl
 
   verdict : AreBytes bytes → (offset : ℕ) → FirstWrong bytes offset → on_case (places_in bytes) ≡ wrong_at offset
   verdict are offset first =

@@ -14,8 +14,6 @@ use Rattle.basics.specs.Bytes.{AreBytes}
 use Rattle.basics.specs.Choice.{pick}
 use Rattle.number.specs.Number.{greatest, number_bytes, number_at, then_number}
 use Rattle.items.specs.Text.{text_bytes, text_at, then_text}
-use Rattle.items.specs.declared.Text.{Text}
-use Rattle.items.specs.declared.Text.TheVariants.{Place, NotText}
 use Rattle.tables.specs.Layout.{Layout, number, sized, may_end, text, ended, any, three_texts, member_then, members_then, record_then, records_then, run_by}
 use Rattle.cases.specs.LaidOut.{Member, texts_bytes, member_bytes, members_bytes, RightMember, RightMembers, none, more, Local, record_bytes, records_bytes, RightLocal, RightLocals}
 use Rattle.cases.specs.LaidOut as laid
@@ -183,9 +181,9 @@ module _ (bytes : List ℕ) (are : AreBytes bytes) where
   text_back following at end e = by_text (text_at bytes at) refl e
     where
       by_text :
-          (t : Text) → text_at bytes at ≡ t →
+          (t : Option (ℕ × ℕ)) → text_at bytes at ≡ t →
           then_text t (Err at) (λ begin size. run_by following bytes (begin + size)) ≡ Ok end → TextBefore following at end
-      by_text (Place begin size) f q =
+      by_text (Some (begin, size)) f q =
           let read = text_stands bytes at begin size are f in
           record {
             t = take size (drop begin bytes);
@@ -193,7 +191,7 @@ module _ (bytes : List ℕ) (are : AreBytes bytes) where
             stands = read.stands;
             onward = ap (run_by following bytes) (sym read.ends) ∙ q;
           }
-      by_text NotText f q = let y : ◌≡◌ {A = ℕ} 0 1 = cc in absurd (omega arith)
+      by_text None f q = let y : ◌≡◌ {A = ℕ} 0 1 = cc in absurd (omega arith)
 
   -- a member that a run passed
   record MemberBefore (last : ℕ) (following : ℕ → Layout) (at end : ℕ) : Type 0 where

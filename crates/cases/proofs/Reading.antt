@@ -15,7 +15,6 @@ use Rattle.basics.specs.Bytes.{AreBytes}
 use Rattle.basics.specs.Choice.{pick}
 use Rattle.number.specs.Number.{greatest, groups_of, number_bytes, further, grouped, number_from, limited, number_at, then_number}
 use Rattle.items.specs.Text.{text_bytes, text_at}
-use Rattle.items.specs.declared.Text.TheVariants.{Place, NotText}
 use Rattle.cases.specs.Standing.{Stands}
 
 -- ---- what stands at a place
@@ -179,7 +178,7 @@ number_stands limit bytes at v next are e =
 -- a text that stands is read
 pub text_reads :
     (bytes : List ℕ) (at : ℕ) (t : List ℕ) → length t ≤ greatest → Stands bytes at (text_bytes t) →
-    text_at bytes at ≡ Place (at + length (number_bytes (length t))) (length t)
+    text_at bytes at ≡ Some (at + length (number_bytes (length t)), length t)
 unfolding text_at text_bytes
 text_reads bytes at t fits s =
     let size = first_stands bytes at (number_bytes (length t)) t s in
@@ -205,7 +204,7 @@ pub record TextStands (bytes : List ℕ) (at start size : ℕ) : Type 0 where
   pub ends : start + size ≡ at + length (text_bytes (take size (drop start bytes)))
 
 pub text_stands :
-    (bytes : List ℕ) (at start size : ℕ) → AreBytes bytes → text_at bytes at ≡ Place start size → TextStands bytes at start size
+    (bytes : List ℕ) (at start size : ℕ) → AreBytes bytes → text_at bytes at ≡ Some (start, size) → TextStands bytes at start size
 unfolding text_at text_bytes
 text_stands bytes at start size are e = of (number_at greatest bytes at) refl e
   where
@@ -228,15 +227,18 @@ text_stands bytes at start size are e = of (number_at greatest bytes at) refl e
 
     of :
         (n : Option (ℕ × ℕ)) → number_at greatest bytes at ≡ n →
-        then_number n NotText (λ m s. pick (leb m (length bytes - s)) (Place s m) NotText) ≡ Place start size →
+        then_number {A = Option (ℕ × ℕ)} n None (λ m s. pick (leb m (length bytes - s)) (Some (s, m)) None) ≡ Some (start, size) →
         TextStands bytes at start size
     of (Some (m, s)) q f = by_test (leb m (length bytes - s)) refl f
       where
-        by_test : (t : Bool) → leb m (length bytes - s) ≡ t → pick t (Place s m) NotText ≡ Place start size → TextStands bytes at start size
+        by_test :
+            (t : Bool) → leb m (length bytes - s) ≡ t → pick {A = Option (ℕ × ℕ)} t (Some (s, m)) None ≡ Some (start, size) →
+            TextStands bytes at start size
         by_test true h g =
+            let parts = some_pair_parts s start m size g in
+            let sizes : m ≡ size = parts.1 in
+            let starts : s ≡ start = parts.0 in
             let same : number_at greatest bytes at ≡ Some (size, start) = cc in
-            let sizes : m ≡ size = cc in
-            let starts : s ≡ start = cc in
             there same (omega (arith, sizes, starts, leb-true m (length bytes - s) h))
         by_test false h g = let z : ◌≡◌ {A = ℕ} 0 1 = cc in absurd (omega arith)
     of None q f = let z : ◌≡◌ {A = ℕ} 0 1 = cc in absurd (omega arith)

@@ -6,7 +6,6 @@ use Rattle.std.specs.Prelude.{ℕ, ◌+◌, ◌*◌, ◌≤◌, ◌<◌, ◌≡�
 use Rattle.basics.specs.Bytes.{AreBytes}
 use Rattle.number.specs.Number.{greatest, number_bytes, number_at}
 use Rattle.items.specs.Text.{text_bytes, text_at}
-use Rattle.items.specs.declared.Text.TheVariants.{Place}
 use Rattle.cases.specs.Standing.{Stands}
 
 -- bytes that stand for a number, in the fewest or not: seven bits to a byte, low group first, top bit set when another follows
@@ -34,11 +33,11 @@ pub record NumberDeclared : Type 0 where
 pub record TextDeclared : Type 0 where
   pub reads :
       (bytes : List ℕ) (at : ℕ) (t : List ℕ) → length t ≤ greatest → Stands bytes at (text_bytes t) →
-      text_at bytes at ≡ Place (at + length (number_bytes (length t))) (length t)
+      text_at bytes at ≡ Some (at + length (number_bytes (length t)), length t)
   pub part :
       (bytes : List ℕ) (at : ℕ) (t : List ℕ) → Stands bytes at (text_bytes t) →
       take (length t) (drop (at + length (number_bytes (length t))) bytes) ≡ t
   pub stands :
-      (bytes : List ℕ) (at start size : ℕ) → AreBytes bytes → text_at bytes at ≡ Place start size →
+      (bytes : List ℕ) (at start size : ℕ) → AreBytes bytes → text_at bytes at ≡ Some (start, size) →
       Stands bytes at (text_bytes (take size (drop start bytes))) × (length (take size (drop start bytes)) ≡ size)
       × (size ≤ greatest)

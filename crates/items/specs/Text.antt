@@ -1,30 +1,28 @@
 -- A text of a case (document 01, "The case"), and the three texts of a member as parts of one part.
 -- Assumes nothing.
-use Rattle.std.specs.Prelude.{ℕ, ◌+◌, ◌-◌, ◌≤◌, ◌<◌, List, [], ◌++◌, leb, length, take, drop}
+use Rattle.std.specs.Prelude.{ℕ, ◌+◌, ◌-◌, ◌≤◌, ◌<◌, List, [], ◌++◌, leb, length, take, drop, Option, Some, None}
 use Rattle.basics.specs.Choice.{pick}
 use Rattle.number.specs.Number.{greatest, number_bytes, number_at, then_number}
-use Rattle.items.specs.declared.Text.{Text}
-use Rattle.items.specs.declared.Text.TheVariants.{Place, NotText}
 
 -- "A text is a length number and that many bytes."
 unfoldable pub text_bytes : List ℕ → List ℕ
 text_bytes t = number_bytes (length t) ++ t
 
 -- the text at a place
-unfoldable pub text_at : List ℕ → ℕ → Text
+unfoldable pub text_at : List ℕ → ℕ → Option (ℕ × ℕ)
 text_at bytes at =
-    then_number (number_at greatest bytes at) NotText (λ size start.
-    pick (leb size (length bytes - start)) (Place start size) NotText)
+    then_number (number_at greatest bytes at) None (λ size start.
+    pick (leb size (length bytes - start)) (Some (start, size)) None)
 
 -- what follows a text, or the answer where there is none
-abbrev pub then_text : {A : Type 0} → Text → A → (ℕ → ℕ → A) → A
-then_text (Place start size) otherwise following = following start size
-then_text NotText otherwise following = otherwise
+abbrev pub then_text : {A : Type 0} → Option (ℕ × ℕ) → A → (ℕ → ℕ → A) → A
+then_text (Some (start, size)) otherwise following = following start size
+then_text None otherwise following = otherwise
 
 -- a text that is read lies in the bytes
-abbrev pub text_within : ℕ → ℕ → Text → Type 0
-text_within size at (Place start n) = (n ≤ greatest) × (at < start) × (start + n ≤ size)
-text_within size at NotText = Unit {0}
+abbrev pub text_within : ℕ → ℕ → Option (ℕ × ℕ) → Type 0
+text_within size at (Some (start, n)) = (n ≤ greatest) × (at < start) × (start + n ≤ size)
+text_within size at None = Unit {0}
 
 -- ---- parts
 

@@ -7,25 +7,17 @@ ghost use Rattle.items.specs.Text.{text_at, text_within, part_at, text_part, aft
 
 use number::case_number;
 
-// What reading a text answers.
-#[derive(Clone, Copy)]
-pub enum Text {
-    // Where its bytes start, behind the length number, and how many they are.
-    Place(usize, usize),
-    NotText,
-}
-
-// The text at a place: a length number and that many bytes.
-pub fn read_text(bytes: &[u8], at: usize) -> Text
+// The text at a place: a length number and that many bytes. It is where its bytes start, behind the length number, and how
+// many they are.
+#[tactic(auto, unfolding(crate::specs::Text::text_at))]
+pub fn read_text(bytes: &[u8], at: usize) -> Option<(usize, usize)>
     ensures { (result ≡ text_at bytes.now at) × text_within (length bytes.now) at result }
 {
-    let Some((length, start)) = case_number(bytes, at) else {
-        return Text::NotText;
-    };
+    let (length, start) = case_number(bytes, at)?;
     if length <= bytes.len() - start {
-        return Text::Place(start, length);
+        return Some((start, length));
     }
-    Text::NotText
+    None
 }
 
 // The part of a case at a place, as far as the case reaches.
@@ -43,26 +35,29 @@ pub fn part_at<'a>(bytes: &'a [u8], start: usize, size: usize) -> &'a [u8]
 }
 
 // The bytes of the text at a place, none where there is no text.
+#[tactic(auto, unfolding(crate::specs::Text::text_part))]
 fn text_part<'a>(texts: &'a [u8], at: usize) -> &'a [u8]
     ensures { result.now ≡ text_part texts.now at }
 {
-    let Text::Place(start, length) = read_text(texts, at) else {
+    let Some((start, length)) = read_text(texts, at) else {
         return &texts[..0];
     };
     part_at(texts, start, length)
 }
 
 // The place behind the text at a place, the end where there is no text.
+#[tactic(auto, unfolding(crate::specs::Text::after_text))]
 fn after_text(texts: &[u8], at: usize) -> usize
     ensures { result ≡ after_text texts.now at }
 {
-    let Text::Place(start, length) = read_text(texts, at) else {
+    let Some((start, length)) = read_text(texts, at) else {
         return texts.len();
     };
     start + length
 }
 
 // The class of a member, of the part that holds its texts.
+#[tactic(auto, unfolding(crate::specs::Text::class_of))]
 pub fn class_of<'a>(texts: &'a [u8]) -> &'a [u8]
     ensures { result.now ≡ class_of texts.now }
 {
@@ -70,6 +65,7 @@ pub fn class_of<'a>(texts: &'a [u8]) -> &'a [u8]
 }
 
 // The name of a member.
+#[tactic(auto, unfolding(crate::specs::Text::name_of))]
 pub fn name_of<'a>(texts: &'a [u8]) -> &'a [u8]
     ensures { result.now ≡ name_of texts.now }
 {
@@ -78,6 +74,7 @@ pub fn name_of<'a>(texts: &'a [u8]) -> &'a [u8]
 }
 
 // The descriptor of a member.
+#[tactic(auto, unfolding(crate::specs::Text::descriptor_of))]
 pub fn descriptor_of<'a>(texts: &'a [u8]) -> &'a [u8]
     ensures { result.now ≡ descriptor_of texts.now }
 {

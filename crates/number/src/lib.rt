@@ -7,8 +7,8 @@ ghost use Rattle.number.specs.Number.{greatest, further, number_at, number_withi
 // The greatest number of a case has three groups, the last of which is this.
 const LAST_GROUP: usize = 3;
 
-// The number at a place, at most the limit. The groups behind the first are a number themselves, whose limit is what
-// the first leaves; it is above 0, or the bytes would not be the fewest.
+// The number at a place, at most the limit, and the place after it. The groups behind the first are a number themselves,
+// whose limit is what the first leaves; it is above 0, or the bytes would not be the fewest.
 pub fn read_number(bytes: &[u8], at: usize, limit: usize) -> Option<(usize, usize)>
     ensures { (result ≡ number_at limit bytes.now at) × number_within limit (length bytes.now) at result }
 {

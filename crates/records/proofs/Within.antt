@@ -10,8 +10,6 @@ use lib.ListN.{length}
 use Rattle.basics.specs.Choice.{pick}
 use Rattle.number.specs.Number.{greatest, number_at, number_within, then_number}
 use Rattle.items.specs.Text.{text_at, text_within, then_text}
-use Rattle.items.specs.declared.Text.{Text}
-use Rattle.items.specs.declared.Text.TheVariants.{Place, NotText}
 use Rattle.number.proofs.Laws.{number-within}
 use Rattle.items.proofs.Laws.{text-within}
 use Rattle.tables.specs.LocalRecord.{record_at, records_in, record_within, then_record}
@@ -33,11 +31,11 @@ module _ (bytes : List ℕ) (first : ℕ) where
   by_number at None wrong following within p go = p
 
   by_text :
-      (at : ℕ) (x : Text) (wrong : LocalRecord) (following : ℕ → ℕ → LocalRecord) → text_within (length bytes) at x →
-      Within wrong → ((start n : ℕ) → text_within (length bytes) at (Place start n) → Within (following start n)) →
+      (at : ℕ) (x : Option (ℕ × ℕ)) (wrong : LocalRecord) (following : ℕ → ℕ → LocalRecord) → text_within (length bytes) at x →
+      Within wrong → ((start n : ℕ) → text_within (length bytes) at (Some (start, n)) → Within (following start n)) →
       Within (then_text x wrong following)
-  by_text at (Place start n) wrong following within p go = go start n within
-  by_text at NotText wrong following within p go = p
+  by_text at (Some (start, n)) wrong following within p go = go start n within
+  by_text at None wrong following within p go = p
 
   pub record-within : Within (record_at bytes first)
   unfolding record_at

@@ -10,8 +10,6 @@ use mathlib.Core.List.{List}
 use lib.Dec.{ltb, leb}
 use Rattle.number.specs.Number.{greatest, number_at}
 use Rattle.items.specs.Text.{text_at, then_text}
-use Rattle.items.specs.declared.Text.{Text}
-use Rattle.items.specs.declared.Text.TheVariants.{Place, NotText}
 use Rattle.tables.specs.Layout.{Layout, text, three_texts, member_then, members_then, record_then, records_then, ended, run_by, then_run}
 use Rattle.tables.specs.LocalRecord.{record_at, then_record}
 use Rattle.tables.specs.Member.{member_at, then_member}
@@ -28,25 +26,25 @@ texts_then following bytes at = first (text_at bytes at)
     onward end = run_by following bytes end
 
     third :
-        (t : Text) (there : ℕ) →
+        (t : Option (ℕ × ℕ)) (there : ℕ) →
         then_text t (Err there) (λ start size. onward (start + size))
         ≡ then_run (then_text t (Err there) (λ start size. Ok (start + size))) (λ wrong. Err wrong) onward
-    third (Place start size) there = refl
-    third NotText there = refl
+    third (Some (start, size)) there = refl
+    third None there = refl
 
     second :
-        (t : Text) (there : ℕ) →
+        (t : Option (ℕ × ℕ)) (there : ℕ) →
         then_text t (Err there) (λ start size. run_by (text following) bytes (start + size))
         ≡ then_run (then_text t (Err there) (λ start size. run_by (text ended) bytes (start + size))) (λ wrong. Err wrong) onward
-    second (Place start size) there = third (text_at bytes (start + size)) (start + size)
-    second NotText there = refl
+    second (Some (start, size)) there = third (text_at bytes (start + size)) (start + size)
+    second None there = refl
 
     first :
-        (t : Text) →
+        (t : Option (ℕ × ℕ)) →
         then_text t (Err at) (λ start size. run_by (text (text following)) bytes (start + size))
         ≡ then_run (then_text t (Err at) (λ start size. run_by (text (text ended)) bytes (start + size))) (λ wrong. Err wrong) onward
-    first (Place start size) = second (text_at bytes (start + size)) (start + size)
-    first NotText = refl
+    first (Some (start, size)) = second (text_at bytes (start + size)) (start + size)
+    first None = refl
 
 -- a member and what follows it
 module _ (bytes : List ℕ) (last at : ℕ) (following : ℕ → Layout) where
@@ -102,9 +100,9 @@ module _ (bytes : List ℕ) (at : ℕ) (following : Layout) where
       by_name :
           (start length_at size slot_at slot name_at : ℕ) → number_at greatest bytes at ≡ Some (start, length_at) →
           number_at greatest bytes length_at ≡ Some (size, slot_at) → number_at greatest bytes slot_at ≡ Some (slot, name_at) →
-          (t : Text) → text_at bytes name_at ≡ t → RecordThen
-      by_name start length_at size slot_at slot name_at e f g (Place name n) h = rw (e, f, g, h)
-      by_name start length_at size slot_at slot name_at e f g NotText h = rw (e, f, g, h)
+          (t : Option (ℕ × ℕ)) → text_at bytes name_at ≡ t → RecordThen
+      by_name start length_at size slot_at slot name_at e f g (Some (name, n)) h = rw (e, f, g, h)
+      by_name start length_at size slot_at slot name_at e f g None h = rw (e, f, g, h)
 
       by_slot :
           (start length_at size slot_at : ℕ) → number_at greatest bytes at ≡ Some (start, length_at) →

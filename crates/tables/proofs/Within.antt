@@ -10,8 +10,6 @@ use lib.ListN.{length}
 use Rattle.basics.specs.Choice.{pick}
 use Rattle.number.specs.Number.{greatest, number_at, number_within, then_number}
 use Rattle.items.specs.Text.{text_at, then_text, text_within}
-use Rattle.items.specs.declared.Text.{Text}
-use Rattle.items.specs.declared.Text.TheVariants.{Place, NotText}
 use Rattle.number.proofs.Laws.{number-within}
 use Rattle.items.proofs.Laws.{text-within}
 use Rattle.tables.specs.Layout.{Layout, number, sized, may_end, ended, run_by, run_within}
@@ -40,12 +38,12 @@ run-within (sized following) bytes at =
     of (text_at bytes at) (text-within bytes at) (λ size next. run-within (following size) bytes next)
   where
     of :
-        (t : Text) → text_within (length bytes) at t →
+        (t : Option (ℕ × ℕ)) → text_within (length bytes) at t →
         ((size next : ℕ) → run_within (length bytes) next (run_by (following size) bytes next)) →
         run_within (length bytes) at (then_text t (Err at) (λ start size. run_by (following size) bytes (start + size)))
-    of (Place start size) h rest =
+    of (Some (start, size)) h rest =
         later_within (length bytes) at (start + size) (omega arith) h.2 (run_by (following size) bytes (start + size)) (rest size (start + size))
-    of NotText h rest = tt
+    of None h rest = tt
 run-within (may_end following) bytes at = by_test (ltb at (length bytes)) (run-within following bytes at)
   where
     by_test :

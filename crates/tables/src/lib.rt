@@ -8,7 +8,7 @@ ghost use Rattle.tables.specs.Layout.{run_by, run_within, three_texts, members_t
 ghost use Rattle.tables.specs.Member.{member_at, member_within};
 ghost use Rattle.tables.specs.LocalRecord.{record_at, record_within};
 
-use items::{Text, read_text};
+use items::read_text;
 use number::case_number;
 
 // A member: its pool index and kind, where its three texts lie, and where the next member begins.
@@ -51,15 +51,15 @@ pub enum LocalRecord {
 fn read_texts(bytes: &[u8], at: usize) -> Result<usize, usize>
     ensures { (result ≡ run_by (three_texts ended) bytes.now at) × run_within (length bytes.now) at result }
 {
-    let Text::Place(class, class_length) = read_text(bytes, at) else {
+    let Some((class, class_length)) = read_text(bytes, at) else {
         return Err(at);
     };
     let name_at = class + class_length;
-    let Text::Place(name, name_length) = read_text(bytes, name_at) else {
+    let Some((name, name_length)) = read_text(bytes, name_at) else {
         return Err(name_at);
     };
     let descriptor_at = name + name_length;
-    let Text::Place(descriptor, descriptor_length) = read_text(bytes, descriptor_at) else {
+    let Some((descriptor, descriptor_length)) = read_text(bytes, descriptor_at) else {
         return Err(descriptor_at);
     };
     Ok(descriptor + descriptor_length)
@@ -128,7 +128,7 @@ pub fn read_record(records: &[u8], at: usize) -> LocalRecord
     let Some((slot, name_at)) = case_number(records, slot_at) else {
         return LocalRecord::Wrong(slot_at);
     };
-    let Text::Place(name, name_length) = read_text(records, name_at) else {
+    let Some((name, name_length)) = read_text(records, name_at) else {
         return LocalRecord::Wrong(name_at);
     };
     LocalRecord::Read(RecordPlace {

@@ -32,27 +32,27 @@ returns-in_default-read_text c =
     sym (rw (le-ltb _ _ c.if-bytes-gt-LONGEST.false, flags-is, fault-is, enum-told3-is))
 
 pub overflow_add-signature_at : goal.overflow_add-signature_at
-overflow_add-signature_at c = omega (arith, rw c.in-Place.is at c.read_text.ensures.1)
+overflow_add-signature_at c = omega (arith, rw c.in-Some-read_text.is at c.read_text.ensures.1)
 
 pub returns-in_default-read_text-2 : goal.returns-in_default-read_text-2
 unfolding case_of places_in
 returns-in_default-read_text-2 c =
     let flags-is = sym c.case_number.ensures.0 ∙ c.in-Some.is in
     let fault-is = sym c.case_number-2.ensures.0 ∙ c.in-Some-case_number.is in
-    let code_is = sym c.read_text.ensures.0 ∙ c.in-Place.is in
+    let code_is = sym c.read_text.ensures.0 ∙ c.in-Some-read_text.is in
     let enum-told4-is = sym c.read_text-2.ensures.0 ∙ c.in_default-read_text-2.is in
     sym (rw (le-ltb _ _ c.if-bytes-gt-LONGEST.false, flags-is, fault-is, code_is, enum-told4-is))
 
 pub overflow_add-signature : goal.overflow_add-signature
-overflow_add-signature c = omega (arith, rw c.in-Place-read_text.is at c.read_text-2.ensures.1)
+overflow_add-signature c = omega (arith, rw c.in-Some-read_text-2.is at c.read_text-2.ensures.1)
 
 pub returns-in-Wrong : goal.returns-in-Wrong
 unfolding case_of places_in
 returns-in-Wrong c =
     let flags-is = sym c.case_number.ensures.0 ∙ c.in-Some.is in
     let fault-is = sym c.case_number-2.ensures.0 ∙ c.in-Some-case_number.is in
-    let code_is = sym c.read_text.ensures.0 ∙ c.in-Place.is in
-    let signature_is = sym c.read_text-2.ensures.0 ∙ c.in-Place-read_text.is in
+    let code_is = sym c.read_text.ensures.0 ∙ c.in-Some-read_text.is in
+    let signature_is = sym c.read_text-2.ensures.0 ∙ c.in-Some-read_text-2.is in
     let runs2-is = sym c.read_tables-runs.ensures ∙ c.in-Wrong.is in
     sym (rw (le-ltb _ _ c.if-bytes-gt-LONGEST.false, flags-is, fault-is, code_is, signature_is, runs2-is))
 
@@ -61,8 +61,8 @@ unfolding case_of places_in
 returns-then-records_end-bytes c =
     let flags-is = sym c.case_number.ensures.0 ∙ c.in-Some.is in
     let fault-is = sym c.case_number-2.ensures.0 ∙ c.in-Some-case_number.is in
-    let code_is = sym c.read_text.ensures.0 ∙ c.in-Place.is in
-    let signature_is = sym c.read_text-2.ensures.0 ∙ c.in-Place-read_text.is in
+    let code_is = sym c.read_text.ensures.0 ∙ c.in-Some-read_text.is in
+    let signature_is = sym c.read_text-2.ensures.0 ∙ c.in-Some-read_text-2.is in
     let runs-is = sym c.read_tables-runs.ensures ∙ c.in-Read.is in
     let excess = lt-ltb _ _ c.if-records_end-bytes.true in
     sym (rw (le-ltb _ _ c.if-bytes-gt-LONGEST.false, flags-is, fault-is, code_is, signature_is, runs-is, excess))
@@ -72,8 +72,8 @@ unfolding case_of places_in
 returns c =
     let flags-is = sym c.case_number.ensures.0 ∙ c.in-Some.is in
     let fault-is = sym c.case_number-2.ensures.0 ∙ c.in-Some-case_number.is in
-    let code_is = sym c.read_text.ensures.0 ∙ c.in-Place.is in
-    let signature_is = sym c.read_text-2.ensures.0 ∙ c.in-Place-read_text.is in
+    let code_is = sym c.read_text.ensures.0 ∙ c.in-Some-read_text.is in
+    let signature_is = sym c.read_text-2.ensures.0 ∙ c.in-Some-read_text-2.is in
     let runs-is = sym c.read_tables-runs.ensures ∙ c.in-Read.is in
     let whole = le-ltb _ _ c.if-records_end-bytes.false in
     sym (rw (le-ltb _ _ c.if-bytes-gt-LONGEST.false, flags-is, fault-is, code_is, signature_is, runs-is, whole))

@@ -36,7 +36,7 @@ returns-in_default-read_text c =
     (sym (rw (start_is, length-is, slot_is, enum-told4-is)), tt)
 
 pub overflow_add-result : goal.overflow_add-result
-overflow_add-result c = omega (arith, rw c.in-Place.is at c.read_text.ensures.1)
+overflow_add-result c = omega (arith, rw c.in-Some-read_text.is at c.read_text.ensures.1)
 
 pub returns : goal.returns
 unfolding record_at
@@ -44,11 +44,11 @@ returns c =
     let start_is = sym c.case_number.ensures.0 ∙ c.in-Some.is in
     let length-is = sym c.case_number-2.ensures.0 ∙ c.in-Some-case_number.is in
     let slot_is = sym c.case_number-3.ensures.0 ∙ c.in-Some-case_number-2.is in
-    let name_is = sym c.read_text.ensures.0 ∙ c.in-Place.is in
+    let name_is = sym c.read_text.ensures.0 ∙ c.in-Some-read_text.is in
     let starts = rw c.in-Some.is at c.case_number.ensures.1 in
     let lengths = rw c.in-Some-case_number.is at c.case_number-2.ensures.1 in
     let slots = rw c.in-Some-case_number-2.is at c.case_number-3.ensures.1 in
-    let names = rw c.in-Place.is at c.read_text.ensures.1 in (
+    let names = rw c.in-Some-read_text.is at c.read_text.ensures.1 in (
       sym (rw (start_is, length-is, slot_is, name_is)),
       (starts.0, lengths.0, slots.0, names.0, omega (arith, starts.1, lengths.1, slots.1, names.1), refl, names.2),
     )
