@@ -10,13 +10,13 @@ ghost use Rattle.format.specs.Items.{run_of};
 ghost use Rattle.classformat.specs.ClassFile.{passed_over, attribute_format, field_format, interface_format};
 
 use entries::is_name;
-use format::{Item, Window, read_u2, read_window};
+use format::{read_u2, read_window};
 
 // What a length counts, passed over.
 pub fn pass_over(file: &[u8], at: usize, limit: usize) -> Result<usize, usize>
     ensures { result ≡ run_of (read_by (passed_over limit (tt {0})) file.now at) }
 {
-    let Window::Inside(_, stop) = read_window(file, at, limit) else {
+    let Some((_, stop)) = read_window(file, at, limit) else {
         return Err(at);
     };
     Ok(stop)
@@ -26,7 +26,7 @@ pub fn pass_over(file: &[u8], at: usize, limit: usize) -> Result<usize, usize>
 fn read_attribute(file: &[u8], table: &[usize], at: usize, limit: usize) -> Result<usize, usize>
     ensures { result ≡ run_of (read_by (attribute_format (names_by file.now table.now) limit) file.now at) }
 {
-    let Item::Value(name, length_at) = read_u2(file, at, limit) else {
+    let Some((name, length_at)) = read_u2(file, at, limit) else {
         return Err(at);
     };
     if is_name(file, table, name) {
@@ -59,16 +59,16 @@ pub fn read_attributes(
 fn read_field(file: &[u8], table: &[usize], at: usize, limit: usize) -> Result<usize, usize>
     ensures { result ≡ run_of (read_by (field_format (names_by file.now table.now) limit) file.now at) }
 {
-    let Item::Value(_, name_at) = read_u2(file, at, limit) else {
+    let Some((_, name_at)) = read_u2(file, at, limit) else {
         return Err(at);
     };
-    let Item::Value(_, descriptor_at) = read_u2(file, name_at, limit) else {
+    let Some((_, descriptor_at)) = read_u2(file, name_at, limit) else {
         return Err(name_at);
     };
-    let Item::Value(_, count_at) = read_u2(file, descriptor_at, limit) else {
+    let Some((_, count_at)) = read_u2(file, descriptor_at, limit) else {
         return Err(descriptor_at);
     };
-    let Item::Value(count, from) = read_u2(file, count_at, limit) else {
+    let Some((count, from)) = read_u2(file, count_at, limit) else {
         return Err(count_at);
     };
     read_attributes(file, table, from, count, limit)
@@ -101,7 +101,7 @@ pub fn read_interfaces(file: &[u8], from: usize, count: usize, limit: usize) -> 
     let mut at = from;
     let mut left = count;
     while 0 < left {
-        let Item::Value(_, next) = read_u2(file, at, limit) else {
+        let Some((_, next)) = read_u2(file, at, limit) else {
             return Err(at);
         };
         at = next;

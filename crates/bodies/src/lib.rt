@@ -13,7 +13,7 @@ ghost use Rattle.bodies.specs.Body.{record_told, code_told};
 
 use attributes::pass_over;
 use entries::{is_name, is_named};
-use format::{Item, Window, bytes_to, read_u2, read_window};
+use format::{read_u2, read_window};
 
 // The longest code (JVMS 4.7.3).
 const LONGEST: usize = 65535;
@@ -68,16 +68,16 @@ fn is_code_length(size: usize) -> bool
 fn read_handler(file: &[u8], at: usize, limit: usize) -> Result<usize, usize>
     ensures { result ≡ run_of (read_by (handler_format limit) file.now at) }
 {
-    let Item::Value(_, end_at) = read_u2(file, at, limit) else {
+    let Some((_, end_at)) = read_u2(file, at, limit) else {
         return Err(at);
     };
-    let Item::Value(_, handler_at) = read_u2(file, end_at, limit) else {
+    let Some((_, handler_at)) = read_u2(file, end_at, limit) else {
         return Err(end_at);
     };
-    let Item::Value(_, caught_at) = read_u2(file, handler_at, limit) else {
+    let Some((_, caught_at)) = read_u2(file, handler_at, limit) else {
         return Err(handler_at);
     };
-    let Item::Value(_, next) = read_u2(file, caught_at, limit) else {
+    let Some((_, next)) = read_u2(file, caught_at, limit) else {
         return Err(caught_at);
     };
     Ok(next)
@@ -100,20 +100,20 @@ pub fn read_handlers(file: &[u8], from: usize, count: usize, limit: usize) -> Re
 pub fn read_local(file: &[u8], table: &[usize], at: usize, limit: usize) -> LocalRead
     ensures { result ≡ record_told (read_by (local_format (names_by file.now table.now) limit) file.now at) }
 {
-    let Item::Value(start, size_at) = read_u2(file, at, limit) else {
+    let Some((start, size_at)) = read_u2(file, at, limit) else {
         return LocalRead::Wrong(at);
     };
-    let Item::Value(size, name_at) = read_u2(file, size_at, limit) else {
+    let Some((size, name_at)) = read_u2(file, size_at, limit) else {
         return LocalRead::Wrong(size_at);
     };
-    let Item::Value(name, descriptor_at) = read_u2(file, name_at, limit) else {
+    let Some((name, descriptor_at)) = read_u2(file, name_at, limit) else {
         return LocalRead::Wrong(name_at);
     };
     if is_name(file, table, name) {
-        let Item::Value(_, slot_at) = read_u2(file, descriptor_at, limit) else {
+        let Some((_, slot_at)) = read_u2(file, descriptor_at, limit) else {
             return LocalRead::Wrong(descriptor_at);
         };
-        let Item::Value(slot, next) = read_u2(file, slot_at, limit) else {
+        let Some((slot, next)) = read_u2(file, slot_at, limit) else {
             return LocalRead::Wrong(slot_at);
         };
         return LocalRead::Read(LocalPlace {
@@ -158,7 +158,7 @@ fn read_locals(
 fn read_local_table(file: &[u8], table: &[usize], at: usize, limit: usize) -> Result<usize, usize>
     ensures { result ≡ run_of (read_by (local_table_format (names_by file.now table.now) limit) file.now at) }
 {
-    let Item::Value(count, from) = read_u2(file, at, limit) else {
+    let Some((count, from)) = read_u2(file, at, limit) else {
         return Err(at);
     };
     let next = read_locals(file, table, from, count, limit)?;
@@ -177,12 +177,12 @@ fn read_code_attribute(
 ) -> Result<usize, usize>
     ensures { result ≡ run_of (read_by (code_attribute_format (names_by file.now table.now) limit) file.now at) }
 {
-    let Item::Value(name, length_at) = read_u2(file, at, limit) else {
+    let Some((name, length_at)) = read_u2(file, at, limit) else {
         return Err(at);
     };
     if is_name(file, table, name) {
         if is_named(file, table, name, b"LocalVariableTable") {
-            let Window::Inside(start, stop) = read_window(file, length_at, limit) else {
+            let Some((start, stop)) = read_window(file, length_at, limit) else {
                 return Err(length_at);
             };
             return read_local_table(file, table, start, stop);
@@ -216,7 +216,7 @@ fn read_code_attributes(
 pub fn read_code_end(file: &[u8], table: &[usize], at: usize, limit: usize) -> Result<usize, usize>
     ensures { result ≡ run_of (read_by (code_end_format (names_by file.now table.now) limit) file.now at) }
 {
-    let Item::Value(count, from) = read_u2(file, at, limit) else {
+    let Some((count, from)) = read_u2(file, at, limit) else {
         return Err(at);
     };
     let next = read_code_attributes(file, table, from, count, limit)?;
@@ -230,7 +230,7 @@ pub fn read_code_end(file: &[u8], table: &[usize], at: usize, limit: usize) -> R
 pub fn read_tables(file: &[u8], table: &[usize], at: usize, limit: usize) -> Result<usize, usize>
     ensures { result ≡ run_of (read_by (code_tables_format (names_by file.now table.now) limit) file.now at) }
 {
-    let Item::Value(count, from) = read_u2(file, at, limit) else {
+    let Some((count, from)) = read_u2(file, at, limit) else {
         return Err(at);
     };
     let next = read_handlers(file, from, count, limit)?;
@@ -241,16 +241,16 @@ pub fn read_tables(file: &[u8], table: &[usize], at: usize, limit: usize) -> Res
 pub fn read_code(file: &[u8], table: &[usize], at: usize, limit: usize) -> CodeRead
     ensures { result ≡ code_told (read_by (code_format (names_by file.now table.now) limit) file.now at) }
 {
-    let Item::Value(_, locals_at) = read_u2(file, at, limit) else {
+    let Some((_, locals_at)) = read_u2(file, at, limit) else {
         return CodeRead::Wrong(at);
     };
-    let Item::Value(_, code_at) = read_u2(file, locals_at, limit) else {
+    let Some((_, code_at)) = read_u2(file, locals_at, limit) else {
         return CodeRead::Wrong(locals_at);
     };
-    let Window::Inside(start, stop) = read_window(file, code_at, limit) else {
+    let Some((start, stop)) = read_window(file, code_at, limit) else {
         return CodeRead::Wrong(code_at);
     };
-    let size = bytes_to(stop, start);
+    let size = stop.saturating_sub(start);
     if is_code_length(size) {
         match read_tables(file, table, stop, limit) {
             Ok(next) => {

@@ -11,7 +11,7 @@ ghost use Rattle.classformat.specs.ClassFile.{start_format, head_format, fields_
 ghost use Rattle.classfile.specs.Class.{start_told, methods_told, class_told, start_table, class_by};
 
 use attributes::{read_attributes, read_fields, read_interfaces};
-use format::{Item, read_u2, read_u4};
+use format::{read_u2, read_u4};
 use methods::read_methods;
 use pool::read_pool;
 
@@ -55,17 +55,17 @@ fn read_start(file: &[u8], table: &mut [usize]) -> StartRead
     ensures keeps { table.new ≡ start_table file.now table.old }
 {
     let limit = file.len();
-    let Item::Value(magic, minor_at) = read_u4(file, 0, limit) else {
+    let Some((magic, minor_at)) = read_u4(file, 0, limit) else {
         return StartRead::Wrong(0);
     };
     if magic == MAGIC {
-        let Item::Value(_, major_at) = read_u2(file, minor_at, limit) else {
+        let Some((_, major_at)) = read_u2(file, minor_at, limit) else {
             return StartRead::Wrong(minor_at);
         };
-        let Item::Value(major, count_at) = read_u2(file, major_at, limit) else {
+        let Some((major, count_at)) = read_u2(file, major_at, limit) else {
             return StartRead::Wrong(major_at);
         };
-        let Item::Value(count, _) = read_u2(file, count_at, limit) else {
+        let Some((count, _)) = read_u2(file, count_at, limit) else {
             return StartRead::Wrong(count_at);
         };
         if 0 < count {
@@ -83,16 +83,16 @@ fn read_start(file: &[u8], table: &mut [usize]) -> StartRead
 fn read_head(file: &[u8], at: usize, limit: usize) -> Result<usize, usize>
     ensures { result ≡ run_of (read_by (head_format limit) file.now at) }
 {
-    let Item::Value(_, this_at) = read_u2(file, at, limit) else {
+    let Some((_, this_at)) = read_u2(file, at, limit) else {
         return Err(at);
     };
-    let Item::Value(_, super_at) = read_u2(file, this_at, limit) else {
+    let Some((_, super_at)) = read_u2(file, this_at, limit) else {
         return Err(this_at);
     };
-    let Item::Value(_, count_at) = read_u2(file, super_at, limit) else {
+    let Some((_, count_at)) = read_u2(file, super_at, limit) else {
         return Err(super_at);
     };
-    let Item::Value(count, from) = read_u2(file, count_at, limit) else {
+    let Some((count, from)) = read_u2(file, count_at, limit) else {
         return Err(count_at);
     };
     read_interfaces(file, from, count, limit)
@@ -102,7 +102,7 @@ fn read_head(file: &[u8], at: usize, limit: usize) -> Result<usize, usize>
 fn read_field_table(file: &[u8], table: &[usize], at: usize, limit: usize) -> Result<usize, usize>
     ensures { result ≡ run_of (read_by (fields_format (names_by file.now table.now) limit) file.now at) }
 {
-    let Item::Value(count, from) = read_u2(file, at, limit) else {
+    let Some((count, from)) = read_u2(file, at, limit) else {
         return Err(at);
     };
     read_fields(file, table, from, count, limit)
@@ -112,7 +112,7 @@ fn read_field_table(file: &[u8], table: &[usize], at: usize, limit: usize) -> Re
 fn read_end(file: &[u8], table: &[usize], at: usize, limit: usize) -> Result<usize, usize>
     ensures { result ≡ run_of (read_by (end_format (names_by file.now table.now) limit) file.now at) }
 {
-    let Item::Value(count, from) = read_u2(file, at, limit) else {
+    let Some((count, from)) = read_u2(file, at, limit) else {
         return Err(at);
     };
     let next = read_attributes(file, table, from, count, limit)?;
@@ -126,7 +126,7 @@ fn read_end(file: &[u8], table: &[usize], at: usize, limit: usize) -> Result<usi
 fn read_method_table(file: &[u8], table: &[usize], at: usize, limit: usize) -> MethodsRead
     ensures { result ≡ methods_told (read_by (methods_format (names_by file.now table.now) limit) file.now at) }
 {
-    let Item::Value(count, from) = read_u2(file, at, limit) else {
+    let Some((count, from)) = read_u2(file, at, limit) else {
         return MethodsRead::Wrong(at);
     };
     match read_methods(file, table, from, count, limit) {

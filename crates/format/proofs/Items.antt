@@ -1,7 +1,8 @@
 -- Reading item by item: what is told of a reading, by the answers of its items' readers. Each rule goes from what is due to what is due
 -- behind it, so that the proof of a reader is the list of its items.
 -- Assumes nothing.
-use Rattle.std.specs.Prelude.{Result, Ok, Err, IsErrAnd}
+use Rattle.std.specs.Prelude.{Result, Ok, Err, IsErrAnd, Option, Some, None}
+use Rattle.std.proofs.lemmas.Option.{some_pair_parts}
 use Rattle.std.proofs.lemmas.Result.{err_from_is_err_and}
 use Prim.Native.Nat.{ℕ, zero, suc, ◌+◌, ◌-◌, ◌≤◌, ◌<◌}
 use native.Mathlib.Omega.{arith}
@@ -14,10 +15,6 @@ use Rattle.basics.specs.Bytes.{u16_at, u32_at}
 use Rattle.basics.specs.Choice.{pick, both}
 use Rattle.format.specs.Format.{Format, number, text, window as windowed, full, here, done, and_then, times, each, number_at, bytes_at, Reading, right, wrong, then_read, go_on, window_right, read_by}
 use Rattle.format.specs.Items.{item_at, window_at, run_of}
-use Rattle.format.specs.declared.Item.{Item}
-use Rattle.format.specs.declared.Item.TheVariants.{Value, Cut}
-use Rattle.format.specs.declared.Window.{Window}
-use Rattle.format.specs.declared.Window.TheVariants as window
 use Rattle.format.proofs.Reading.{read_then}
 
 -- what a `?` answers is the wrong place that it met
@@ -41,37 +38,36 @@ four_bytes file at =
 
 module _ (width limit : ℕ) (file : List ℕ) (at : ℕ) where
   pub item_is :
-      {v next : ℕ} → item_at width limit file at ≡ Value v next → (at + width ≤ limit) × (number_at width file at ≡ v) × (at + width ≡ next)
+      {v next : ℕ} → item_at width limit file at ≡ Some (v, next) → (at + width ≤ limit) × (number_at width file at ≡ v) × (at + width ≡ next)
   unfolding item_at
   item_is {v} {next} is = by (leb (at + width) limit) refl is
     where
       by :
-          (t : Bool) → leb (at + width) limit ≡ t → pick t (Value (number_at width file at) (at + width)) Cut ≡ Value v next →
+          (t : Bool) → leb (at + width) limit ≡ t → pick {A = Option (ℕ × ℕ)} t (Some (number_at width file at, at + width)) None ≡ Some (v, next) →
           (at + width ≤ limit) × (number_at width file at ≡ v) × (at + width ≡ next)
       by true fits e =
-          let value : number_at width file at ≡ v = cc in
-          let place : at + width ≡ next = cc in
-          (leb-true (at + width) limit fits, value, place)
+          let same = some_pair_parts _ _ _ _ e in
+          (leb-true (at + width) limit fits, same.0, same.1)
       by false cut e = let z : ◌≡◌ {A = ℕ} 0 1 = cc in absurd (omega arith)
 
-  pub item_cut : item_at width limit file at ≡ Cut → limit < at + width
+  pub item_cut : item_at width limit file at ≡ None → limit < at + width
   unfolding item_at
   item_cut is = by (leb (at + width) limit) refl is
     where
-      by : (t : Bool) → leb (at + width) limit ≡ t → pick t (Value (number_at width file at) (at + width)) Cut ≡ Cut → limit < at + width
+      by : (t : Bool) → leb (at + width) limit ≡ t → pick {A = Option (ℕ × ℕ)} t (Some (number_at width file at, at + width)) None ≡ None → limit < at + width
       by true fits e = let z : ◌≡◌ {A = ℕ} 0 1 = cc in absurd (omega arith)
       by false cut e = leb-false (at + width) limit cut
 
 -- ---- what the format goes on with behind an item
 
 module _ {A : Type 0} (file : List ℕ) (width limit at : ℕ) where
-  abbrev behind : Item → (ℕ → ℕ → Reading A) → Reading A
-  behind (Value v next) following = following v next
-  behind Cut following = wrong at
+  abbrev behind : Option (ℕ × ℕ) → (ℕ → ℕ → Reading A) → Reading A
+  behind (Some (v, next)) following = following v next
+  behind None following = wrong at
 
-  abbrev inside : Window → (ℕ → ℕ → Reading A) → Reading A
-  inside (window.Inside start stop) following = following start stop
-  inside window.Cut following = wrong at
+  abbrev inside : Option (ℕ × ℕ) → (ℕ → ℕ → Reading A) → Reading A
+  inside (Some (start, stop)) following = following start stop
+  inside None following = wrong at
 
   -- a number that is read has to pass its rule, and so has a text
   abbrev numbered : (ℕ → Bool) → (ℕ → Format A) → ℕ → ℕ → Reading A
@@ -90,7 +86,7 @@ module _ {A : Type 0} (file : List ℕ) (width limit at : ℕ) where
       by :
           (t : Bool) →
           go_on (both t (ok (number_at width file at))) at (at + width) (λ n. read_by (following (number_at width file at)) file n)
-          ≡ behind (pick t (Value (number_at width file at) (at + width)) Cut) (numbered ok following)
+          ≡ behind (pick {A = Option (ℕ × ℕ)} t (Some (number_at width file at, at + width)) None) (numbered ok following)
       by true = refl
       by false = refl
 
@@ -103,7 +99,7 @@ module _ {A : Type 0} (file : List ℕ) (width limit at : ℕ) where
       by :
           (t : Bool) →
           go_on t at (at + width) (λ n. read_by (following (at + width + number_at width file at)) file n)
-          ≡ inside (pick t (window.Inside (at + width) (at + width + number_at width file at)) window.Cut)
+          ≡ inside (pick {A = Option (ℕ × ℕ)} t (Some (at + width, at + width + number_at width file at)) None)
           (λ start stop. read_by (following stop) file start)
       by true = refl
       by false = refl
@@ -121,7 +117,7 @@ module _ {A : Type 0} (file : List ℕ) (width limit at : ℕ) where
           (t : Bool) →
           go_on (both t (ok (number_at width file at) (bytes_at file (at + width) (number_at width file at)))) at (at + width + number_at width file at)
           (λ n. read_by (following (at + width) (number_at width file at)) file n)
-          ≡ inside (pick t (window.Inside (at + width) (at + width + number_at width file at)) window.Cut) (spelled ok following)
+          ≡ inside (pick {A = Option (ℕ × ℕ)} t (Some (at + width, at + width + number_at width file at)) None) (spelled ok following)
       by true = rw size
       by false = refl
 
@@ -139,56 +135,56 @@ told tell due tells = sym tells.is
 
 module _ {A B : Type 0} {tell : Reading A → B} {file : List ℕ} {width limit at : ℕ} where
   module _ {ok : ℕ → Bool} {following : ℕ → Format A} where
-    pub number_cut : item_at width limit file at ≡ Cut → Tells tell (number width limit ok following) file at (tell (wrong at))
-    number_cut is = record { is = ap tell (number_by file width limit at ok following) ∙ ap (λ (i : Item). tell (behind file width limit at i (numbered file width limit at ok following))) is }
+    pub number_cut : item_at width limit file at ≡ None → Tells tell (number width limit ok following) file at (tell (wrong at))
+    number_cut is = record { is = ap tell (number_by file width limit at ok following) ∙ ap (λ (i : Option (ℕ × ℕ)). tell (behind file width limit at i (numbered file width limit at ok following))) is }
 
     pub number_bad :
-        {v next : ℕ} → item_at width limit file at ≡ Value v next → ok v ≡ false →
+        {v next : ℕ} → item_at width limit file at ≡ Some (v, next) → ok v ≡ false →
         Tells tell (number width limit ok following) file at (tell (wrong at))
     number_bad {v} {next} is fails =
         record {
-          is = ap tell (number_by file width limit at ok following) ∙ ap (λ (i : Item). tell (behind file width limit at i (numbered file width limit at ok following))) is
+          is = ap tell (number_by file width limit at ok following) ∙ ap (λ (i : Option (ℕ × ℕ)). tell (behind file width limit at i (numbered file width limit at ok following))) is
               ∙ ap (λ (t : Bool). tell (go_on t at next (λ n. read_by (following v) file n))) fails;
         }
 
     pub number_right :
-        {v next : ℕ} {answer : B} → item_at width limit file at ≡ Value v next → ok v ≡ true → Tells tell (following v) file next answer →
+        {v next : ℕ} {answer : B} → item_at width limit file at ≡ Some (v, next) → ok v ≡ true → Tells tell (following v) file next answer →
         Tells tell (number width limit ok following) file at answer
     number_right {v} {next} is passes onward =
         record {
-          is = ap tell (number_by file width limit at ok following) ∙ ap (λ (i : Item). tell (behind file width limit at i (numbered file width limit at ok following))) is
+          is = ap tell (number_by file width limit at ok following) ∙ ap (λ (i : Option (ℕ × ℕ)). tell (behind file width limit at i (numbered file width limit at ok following))) is
               ∙ ap (λ (t : Bool). tell (go_on t at next (λ n. read_by (following v) file n))) passes ∙ onward.is;
         }
 
   module _ {following : ℕ → Format A} where
-    pub window_cut : window_at width limit file at ≡ window.Cut → Tells tell (windowed width limit following) file at (tell (wrong at))
-    window_cut is = record { is = ap tell (window_by file width limit at following) ∙ ap (λ (w : Window). tell (inside file width limit at w (λ start stop. read_by (following stop) file start))) is }
+    pub window_cut : window_at width limit file at ≡ None → Tells tell (windowed width limit following) file at (tell (wrong at))
+    window_cut is = record { is = ap tell (window_by file width limit at following) ∙ ap (λ (w : Option (ℕ × ℕ)). tell (inside file width limit at w (λ start stop. read_by (following stop) file start))) is }
 
     pub window-right :
-        {start stop : ℕ} {answer : B} → window_at width limit file at ≡ window.Inside start stop → Tells tell (following stop) file start answer →
+        {start stop : ℕ} {answer : B} → window_at width limit file at ≡ Some (start, stop) → Tells tell (following stop) file start answer →
         Tells tell (windowed width limit following) file at answer
-    window-right is onward = record { is = ap tell (window_by file width limit at following) ∙ ap (λ (w : Window). tell (inside file width limit at w (λ start stop. read_by (following stop) file start))) is ∙ onward.is }
+    window-right is onward = record { is = ap tell (window_by file width limit at following) ∙ ap (λ (w : Option (ℕ × ℕ)). tell (inside file width limit at w (λ start stop. read_by (following stop) file start))) is ∙ onward.is }
 
   module _ {ok : ℕ → List ℕ → Bool} {following : ℕ → ℕ → Format A} where
-    pub text_cut : window_at width limit file at ≡ window.Cut → Tells tell (text width limit ok following) file at (tell (wrong at))
-    text_cut is = record { is = ap tell (text_by file width limit at ok following) ∙ ap (λ (w : Window). tell (inside file width limit at w (spelled file width limit at ok following))) is }
+    pub text_cut : window_at width limit file at ≡ None → Tells tell (text width limit ok following) file at (tell (wrong at))
+    text_cut is = record { is = ap tell (text_by file width limit at ok following) ∙ ap (λ (w : Option (ℕ × ℕ)). tell (inside file width limit at w (spelled file width limit at ok following))) is }
 
     pub text_bad :
-        {start stop : ℕ} → window_at width limit file at ≡ window.Inside start stop → ok (stop - start) (bytes_at file start (stop - start)) ≡ false →
+        {start stop : ℕ} → window_at width limit file at ≡ Some (start, stop) → ok (stop - start) (bytes_at file start (stop - start)) ≡ false →
         Tells tell (text width limit ok following) file at (tell (wrong at))
     text_bad {start} {stop} is fails =
         record {
-          is = ap tell (text_by file width limit at ok following) ∙ ap (λ (w : Window). tell (inside file width limit at w (spelled file width limit at ok following))) is
+          is = ap tell (text_by file width limit at ok following) ∙ ap (λ (w : Option (ℕ × ℕ)). tell (inside file width limit at w (spelled file width limit at ok following))) is
               ∙ ap (λ (t : Bool). tell (go_on t at stop (λ n. read_by (following start (stop - start)) file n))) fails;
         }
 
     pub text_right :
-        {start stop : ℕ} {answer : B} → window_at width limit file at ≡ window.Inside start stop →
+        {start stop : ℕ} {answer : B} → window_at width limit file at ≡ Some (start, stop) →
         ok (stop - start) (bytes_at file start (stop - start)) ≡ true → Tells tell (following start (stop - start)) file stop answer →
         Tells tell (text width limit ok following) file at answer
     text_right {start} {stop} is passes onward =
         record {
-          is = ap tell (text_by file width limit at ok following) ∙ ap (λ (w : Window). tell (inside file width limit at w (spelled file width limit at ok following))) is
+          is = ap tell (text_by file width limit at ok following) ∙ ap (λ (w : Option (ℕ × ℕ)). tell (inside file width limit at w (spelled file width limit at ok following))) is
               ∙ ap (λ (t : Bool). tell (go_on t at stop (λ n. read_by (following start (stop - start)) file n))) passes ∙ onward.is;
         }
 

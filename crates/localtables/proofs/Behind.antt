@@ -1,6 +1,6 @@
 -- What is right behind an item of a format that is right, by the answer of the item's reader.
 -- Assumes nothing.
-use Rattle.std.specs.Prelude.{Ok, Err}
+use Rattle.std.specs.Prelude.{Ok, Err, Some, None}
 use Prim.Native.Nat.{ℕ, zero, suc, ◌+◌, ◌-◌, ◌≤◌, ◌<◌}
 use native.Mathlib.Omega.{arith}
 use mathlib.Core.Path.{◌≡◌, refl, ◌∙◌, sym}
@@ -12,8 +12,6 @@ use Rattle.basics.specs.Bytes.{AreBytes}
 use Rattle.basics.proofs.Bytes.{u16_below}
 use Rattle.format.specs.Format.{Format, number, window as windowed, full, done, and_then, times, number_at, Reading, right, wrong, go_on, read_by}
 use Rattle.format.specs.Items.{item_at, window_at, run_of}
-use Rattle.format.specs.declared.Item.TheVariants.{Value, Cut}
-use Rattle.format.specs.declared.Window.TheVariants as window
 use Rattle.format.proofs.Items.{two_bytes, item_is, number_cut, number_bad, number_right, window_cut, window-right, then-read, then_wrong, ended}
 use Rattle.format.proofs.Was.{FirstOf, first_of, number_was, then_was}
 use Rattle.classformat.specs.ClassFile.{passed_over}
@@ -49,10 +47,10 @@ module _ {A : Type 0} {file : List ℕ} {width limit at : ℕ} {a : A} {end : �
     pub number_fits : (at + width ≤ limit) × Right (following (number_at width file at)) file (at + width) a end
     number_fits = let all = number_was file at width limit ok following due.was in (all.0, record { was = all.2 })
 
-    pub number_uncut : {B : Type 0} → item_at width limit file at ≡ Cut → B
+    pub number_uncut : {B : Type 0} → item_at width limit file at ≡ None → B
     number_uncut is = never due.was (number_cut {tell = itself} {ok = ok} {following = following} is).is
 
-    pub number_behind : {v next : ℕ} → item_at width limit file at ≡ Value v next → Right (following v) file next a end
+    pub number_behind : {v next : ℕ} → item_at width limit file at ≡ Some (v, next) → Right (following v) file next a end
     number_behind {v} {next} is = by (ok v) refl
       where
         by : (t : Bool) → ok v ≡ t → Right (following v) file next a end
@@ -61,11 +59,11 @@ module _ {A : Type 0} {file : List ℕ} {width limit at : ℕ} {a : A} {end : �
         by false fails = never due.was (number_bad {tell = itself} {ok = ok} {following = following} is fails).is
 
   module _ {following : ℕ → Format A} (due : Right (windowed width limit following) file at a end) where
-    pub window_uncut : {B : Type 0} → window_at width limit file at ≡ window.Cut → B
+    pub window_uncut : {B : Type 0} → window_at width limit file at ≡ None → B
     window_uncut is = never due.was (window_cut {tell = itself} {following = following} is).is
 
     pub window_behind :
-        {start stop : ℕ} → window_at width limit file at ≡ window.Inside start stop → Right (following stop) file start a end
+        {start stop : ℕ} → window_at width limit file at ≡ Some (start, stop) → Right (following stop) file start a end
     window_behind is =
         record { was = sym (window-right {tell = itself} {following = following} is (record { is = refl })).is ∙ due.was }
 
@@ -124,7 +122,7 @@ module _ {A B : Type 0} (format : Format A) (rest : A → Format B) {file : List
 -- ---- a number of two bytes
 
 pub two_below :
-    (limit : ℕ) (file : List ℕ) (at : ℕ) → AreBytes file → {v next : ℕ} → item_at 2 limit file at ≡ Value v next → v < 65536
+    (limit : ℕ) (file : List ℕ) (at : ℕ) → AreBytes file → {v next : ℕ} → item_at 2 limit file at ≡ Some (v, next) → v < 65536
 two_below limit file at are is = omega (arith, u16_below file are at, two_bytes file at, (item_is 2 limit file at is).1)
 
 -- ---- a format that stands so many times: a turn of a loop over it

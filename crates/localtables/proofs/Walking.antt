@@ -1,6 +1,6 @@
 -- What stands behind an attribute's name; the records of a local table fill its attribute, and the attributes of a Code hold its records.
 -- Assumes nothing.
-use Rattle.std.specs.Prelude.{Ok}
+use Rattle.std.specs.Prelude.{Ok, Some}
 use Prim.Native.Nat.{ℕ, zero, suc, ◌+◌, ◌≤◌}
 use native.Mathlib.Omega.{arith}
 use mathlib.Core.Path.{◌≡◌, ◌∙◌, sym, ap, subst}
@@ -10,7 +10,6 @@ use Rattle.basics.specs.Ascii.{ascii}
 use Rattle.basics.specs.Choice.{pick}
 use Rattle.format.specs.Format.{window, full, done, and_then, times, right, read_by}
 use Rattle.format.specs.Items.{item_at, run_of}
-use Rattle.format.specs.declared.Item.TheVariants.{Value}
 use Rattle.format.proofs.Items.{item_is}
 use Rattle.format.proofs.Was.{first_of}
 use Rattle.classformat.specs.Contents.{Name, is_named, Local, Tables}
@@ -21,7 +20,7 @@ module _ (names : ℕ → Name) (limit : ℕ) (file : List ℕ) where
   -- behind an attribute's name
   module _
       (at : ℕ) {locals : List Local} {end name next : ℕ} (due : Right (code_attribute_format names limit) file at locals end)
-      (is : item_at 2 limit file at ≡ Value name next) where
+      (is : item_at 2 limit file at ≡ Some (name, next)) where
     attribute_behind :
         (t : Bool) → is_named (ascii "LocalVariableTable") (names name) ≡ t →
         Right (pick t (window 4 limit (λ stop. local_table_format names stop)) (passed_over limit [])) file next locals end
@@ -59,7 +58,7 @@ module _ (names : ℕ → Name) (limit : ℕ) (file : List ℕ) where
   -- behind its count a local table has its records, and they fill it
   pub table_filled :
       (at : ℕ) {locals : List Local} {end count from : ℕ} → Right (local_table_format names limit) file at locals end →
-      item_at 2 limit file at ≡ Value count from →
+      item_at 2 limit file at ≡ Some (count, from) →
       (limit ≡ end) × (read_by (times count (local_format names limit)) file from ≡ right locals end)
   unfolding local_table_format
   table_filled at {locals} {end} {count} {from} due is =
@@ -76,7 +75,7 @@ module _ (names : ℕ → Name) (limit : ℕ) (file : List ℕ) where
   -- behind their count stand the attributes of a Code, whose records join in file order
   pub tables_joined :
       (at : ℕ) {locals : List Local} {end count from : ℕ} → Right (code_end_format names limit) file at locals end →
-      item_at 2 limit file at ≡ Value count from →
+      item_at 2 limit file at ≡ Some (count, from) →
       (tables : List (List Local)) × (stop : ℕ) × (read_by (times count (code_attribute_format names limit)) file from ≡ right tables stop)
       × (locals ≡ joined tables)
   unfolding code_end_format
@@ -88,7 +87,7 @@ module _ (names : ℕ → Name) (limit : ℕ) (file : List ℕ) where
   -- behind the handlers stand the attributes
   pub tables_behind :
       (at : ℕ) {tables : Tables} {end count from next : ℕ} → Right (code_tables_format names limit) file at tables end →
-      item_at 2 limit file at ≡ Value count from → run_of (read_by (times count (handler_format limit)) file from) ≡ Ok next →
+      item_at 2 limit file at ≡ Some (count, from) → run_of (read_by (times count (handler_format limit)) file from) ≡ Ok next →
       (stop : ℕ) × Right (code_end_format names limit) file next tables.locals stop
   unfolding code_tables_format
   tables_behind at {tables} {end} {count} {from} {next} due counted is =

@@ -12,7 +12,7 @@ ghost use Rattle.localtables.specs.Locals.{first_local, local_told, count_told, 
 use attributes::pass_over;
 use bodies::{LocalRead, read_handlers, read_local, read_tables};
 use entries::is_named;
-use format::{Item, Window, read_u2, read_window};
+use format::{read_u2, read_window};
 use search::covers_load;
 
 // The local record that names a local at an instruction.
@@ -85,14 +85,14 @@ fn records_at(file: &[u8], table: &[usize], at: usize, limit: usize) -> RecordsP
         count: 0,
         stop: at,
     };
-    let Item::Value(name, length_at) = read_u2(file, at, limit) else {
+    let Some((name, length_at)) = read_u2(file, at, limit) else {
         return none;
     };
     if is_named(file, table, name, b"LocalVariableTable") {
-        let Window::Inside(start, stop) = read_window(file, length_at, limit) else {
+        let Some((start, stop)) = read_window(file, length_at, limit) else {
             return none;
         };
-        let Item::Value(count, from) = read_u2(file, start, stop) else {
+        let Some((count, from)) = read_u2(file, start, stop) else {
             return none;
         };
         return RecordsPlace { from, count, stop };
@@ -145,13 +145,13 @@ fn attributes_at(file: &[u8], table: &[usize], at: usize, limit: usize) -> Attri
     let Ok(_) = read_tables(file, table, at, limit) else {
         return none;
     };
-    let Item::Value(handlers, handlers_at) = read_u2(file, at, limit) else {
+    let Some((handlers, handlers_at)) = read_u2(file, at, limit) else {
         return none;
     };
     let Ok(count_at) = read_handlers(file, handlers_at, handlers, limit) else {
         return none;
     };
-    let Item::Value(count, from) = read_u2(file, count_at, limit) else {
+    let Some((count, from)) = read_u2(file, count_at, limit) else {
         return none;
     };
     AttributesPlace { from, count }

@@ -14,7 +14,7 @@ ghost use Rattle.methods.specs.Method.{body_place, body_told, method_told, metho
 use attributes::pass_over;
 use bodies::{CodePlace, CodeRead, read_code};
 use entries::{is_name, is_named};
-use format::{Item, Window, read_u2, read_window};
+use format::{read_u2, read_window};
 
 // The code of a method, where it has one.
 #[derive(Clone, Copy)]
@@ -54,7 +54,7 @@ pub enum MethodRead {
 fn read_coded(file: &[u8], table: &[usize], at: usize, limit: usize) -> BodyRead
     ensures { result ≡ body_told (read_by (coded_format (names_by file.now table.now) limit) file.now at) }
 {
-    let Window::Inside(start, stop) = read_window(file, at, limit) else {
+    let Some((start, stop)) = read_window(file, at, limit) else {
         return BodyRead::Wrong(at);
     };
     match read_code(file, table, start, stop) {
@@ -85,7 +85,7 @@ fn read_method_attribute(
     ensures { (before : Body) → body_place before ≡ body →
         result ≡ body_told (read_by (method_attribute_format (names_by file.now table.now) limit before) file.now at) }
 {
-    let Item::Value(name, length_at) = read_u2(file, at, limit) else {
+    let Some((name, length_at)) = read_u2(file, at, limit) else {
         return BodyRead::Wrong(at);
     };
     if is_name(file, table, name) {
@@ -133,18 +133,18 @@ fn read_method_attributes(
 pub fn read_method(file: &[u8], table: &[usize], at: usize, limit: usize) -> MethodRead
     ensures { result ≡ method_told (read_by (method_format (names_by file.now table.now) limit) file.now at) }
 {
-    let Item::Value(flags, name_at) = read_u2(file, at, limit) else {
+    let Some((flags, name_at)) = read_u2(file, at, limit) else {
         return MethodRead::Wrong(at);
     };
-    let Item::Value(name, descriptor_at) = read_u2(file, name_at, limit) else {
+    let Some((name, descriptor_at)) = read_u2(file, name_at, limit) else {
         return MethodRead::Wrong(name_at);
     };
     if is_name(file, table, name) {
-        let Item::Value(descriptor, count_at) = read_u2(file, descriptor_at, limit) else {
+        let Some((descriptor, count_at)) = read_u2(file, descriptor_at, limit) else {
             return MethodRead::Wrong(descriptor_at);
         };
         if is_name(file, table, descriptor) {
-            let Item::Value(count, from) = read_u2(file, count_at, limit) else {
+            let Some((count, from)) = read_u2(file, count_at, limit) else {
                 return MethodRead::Wrong(count_at);
             };
             return match read_method_attributes(file, table, from, count, limit) {

@@ -10,4 +10,4 @@ pub returns-in_default : goal.returns-in_default
 returns-in_default c = told run_of (passed_over c.args.limit (tt {0})) (text_cut (sym c.read_window.ensures ∙ c.in_default.is))
 
 pub returns : goal.returns
-returns c = told run_of (passed_over c.args.limit (tt {0})) (text_right (sym c.read_window.ensures ∙ c.in-Inside.is) refl all_done)
+returns c = told run_of (passed_over c.args.limit (tt {0})) (text_right (sym c.read_window.ensures ∙ c.in-Some.is) refl all_done)

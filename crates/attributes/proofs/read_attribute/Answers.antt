@@ -18,7 +18,7 @@ pub returns-then-is_name : goal.returns-then-is_name
 unfolding attribute_format
 returns-then-is_name c =
     let a = c.args in
-    let name = sym c.read_u2.ensures ∙ c.in-Value.is in
+    let name = sym c.read_u2.ensures ∙ c.in-Some.is in
     let named = sym c.is_name.ensures ∙ c.if-is_name.true in
     told run_of (attribute_format (names_by a.file.now a.table.now) a.limit) (number_right name named (record { is = sym c.pass_over.ensures }))
 
@@ -26,6 +26,6 @@ pub returns : goal.returns
 unfolding attribute_format
 returns c =
     let a = c.args in
-    let name = sym c.read_u2.ensures ∙ c.in-Value.is in
+    let name = sym c.read_u2.ensures ∙ c.in-Some.is in
     let unnamed = sym c.is_name.ensures ∙ c.if-is_name.false in
     told run_of (attribute_format (names_by a.file.now a.table.now) a.limit) (number_bad name unnamed)

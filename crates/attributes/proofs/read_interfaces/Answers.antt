@@ -20,7 +20,7 @@ loop-left-preserved c =
     let a = c.args in
     let l = c.loop-left in
     let one = interface_format a.limit in
-    let index = sym c.read_u2.ensures ∙ c.in-Value.is in
+    let index = sym c.read_u2.ensures ∙ c.in-Some.is in
     l.invariant ∙ (turn_right one l.left c.loop-left-test.true (sym (told run_of one (number_right index refl all_done)))).is
 
 pub returns : goal.returns

@@ -21,27 +21,27 @@ pub returns-in_default-read_u2 : goal.returns-in_default-read_u2
 unfolding code_format
 returns-in_default-read_u2 c =
     let a = c.args in
-    let max-stack = sym c.read_u2.ensures ∙ c.in-Value.is in
+    let max-stack = sym c.read_u2.ensures ∙ c.in-Some.is in
     told code_told (code_format (names_by a.file.now a.table.now) a.limit) (number_right max-stack refl (number_cut (sym c.read_u2-2.ensures ∙ c.in_default-read_u2.is)))
 
 pub returns-in_default-read_window : goal.returns-in_default-read_window
 unfolding code_format
 returns-in_default-read_window c =
     let a = c.args in
-    let max-stack = sym c.read_u2.ensures ∙ c.in-Value.is in
-    let max-locals = sym c.read_u2-2.ensures ∙ c.in-Value-read_u2.is in
+    let max-stack = sym c.read_u2.ensures ∙ c.in-Some.is in
+    let max-locals = sym c.read_u2-2.ensures ∙ c.in-Some-read_u2.is in
     told code_told (code_format (names_by a.file.now a.table.now) a.limit) (number_right max-stack refl (number_right max-locals refl (text_cut (sym c.read_window.ensures ∙ c.in_default-read_window.is))))
 
 pub returns-in-Ok : goal.returns-in-Ok
 unfolding code_format
 returns-in-Ok c =
     let a = c.args in
-    let max-stack = sym c.read_u2.ensures ∙ c.in-Value.is in
-    let max-locals = sym c.read_u2-2.ensures ∙ c.in-Value-read_u2.is in
-    let code = sym c.read_window.ensures ∙ c.in-Inside.is in
-    let fits = ap (λ (n : ℕ). between 1 65535 n) (sym c.bytes_to-size.ensures) ∙ sym c.is_code_length.ensures ∙ c.if-is_code_length.true in
-    let place : ℕ → CodePlace = λ n. record { start = c.in-Inside.start; size = n; stop = a.limit } in
-    ap (λ (n : ℕ). Read (place n) c.in-Ok.next) c.bytes_to-size.ensures
+    let max-stack = sym c.read_u2.ensures ∙ c.in-Some.is in
+    let max-locals = sym c.read_u2-2.ensures ∙ c.in-Some-read_u2.is in
+    let code = sym c.read_window.ensures ∙ c.in-Some-read_window.is in
+    let fits = ap (λ (n : ℕ). between 1 65535 n) (sym c.saturating_sub-size.ensures) ∙ sym c.is_code_length.ensures ∙ c.if-is_code_length.true in
+    let place : ℕ → CodePlace = λ n. record { start = c.in-Some-read_window.start; size = n; stop = a.limit } in
+    ap (λ (n : ℕ). Read (place n) c.in-Ok.next) c.saturating_sub-size.ensures
     ∙ told code_told (code_format (names_by a.file.now a.table.now) a.limit) (number_right max-stack refl (number_right max-locals refl (text_right code fits
     (then_right _ _ (sym c.read_tables.ensures ∙ c.in-Ok.is) (λ tables. all_done)))))
 
@@ -49,10 +49,10 @@ pub returns-in-Err : goal.returns-in-Err
 unfolding code_format
 returns-in-Err c =
     let a = c.args in
-    let max-stack = sym c.read_u2.ensures ∙ c.in-Value.is in
-    let max-locals = sym c.read_u2-2.ensures ∙ c.in-Value-read_u2.is in
-    let code = sym c.read_window.ensures ∙ c.in-Inside.is in
-    let fits = ap (λ (n : ℕ). between 1 65535 n) (sym c.bytes_to-size.ensures) ∙ sym c.is_code_length.ensures ∙ c.if-is_code_length.true in
+    let max-stack = sym c.read_u2.ensures ∙ c.in-Some.is in
+    let max-locals = sym c.read_u2-2.ensures ∙ c.in-Some-read_u2.is in
+    let code = sym c.read_window.ensures ∙ c.in-Some-read_window.is in
+    let fits = ap (λ (n : ℕ). between 1 65535 n) (sym c.saturating_sub-size.ensures) ∙ sym c.is_code_length.ensures ∙ c.if-is_code_length.true in
     told code_told (code_format (names_by a.file.now a.table.now) a.limit) (number_right max-stack refl (number_right max-locals refl (text_right code fits
     (then_wrong _ _ (sym c.read_tables.ensures ∙ c.in-Err.is)))))
 
@@ -60,8 +60,8 @@ pub returns : goal.returns
 unfolding code_format
 returns c =
     let a = c.args in
-    let max-stack = sym c.read_u2.ensures ∙ c.in-Value.is in
-    let max-locals = sym c.read_u2-2.ensures ∙ c.in-Value-read_u2.is in
-    let code = sym c.read_window.ensures ∙ c.in-Inside.is in
-    let fits = ap (λ (n : ℕ). between 1 65535 n) (sym c.bytes_to-size.ensures) ∙ sym c.is_code_length.ensures ∙ c.if-is_code_length.false in
+    let max-stack = sym c.read_u2.ensures ∙ c.in-Some.is in
+    let max-locals = sym c.read_u2-2.ensures ∙ c.in-Some-read_u2.is in
+    let code = sym c.read_window.ensures ∙ c.in-Some-read_window.is in
+    let fits = ap (λ (n : ℕ). between 1 65535 n) (sym c.saturating_sub-size.ensures) ∙ sym c.is_code_length.ensures ∙ c.if-is_code_length.false in
     told code_told (code_format (names_by a.file.now a.table.now) a.limit) (number_right max-stack refl (number_right max-locals refl (text_bad code fits)))

@@ -19,7 +19,7 @@ pub returns-in_default-read_window : goal.returns-in_default-read_window
 unfolding code_attribute_format
 returns-in_default-read_window c =
     let a = c.args in
-    let name = sym c.read_u2.ensures ∙ c.in-Value.is in
+    let name = sym c.read_u2.ensures ∙ c.in-Some.is in
     let named = sym c.is_name.ensures ∙ c.if-is_name.true in
     let table = sym c.is_named.ensures ∙ c.if-is_named.true in
     told run_of (code_attribute_format (names_by a.file.now a.table.now) a.limit) (number_right name named (rw table (window_cut (sym c.read_window.ensures ∙ c.in_default-read_window.is))))
@@ -28,17 +28,17 @@ pub returns-then-is_named : goal.returns-then-is_named
 unfolding code_attribute_format
 returns-then-is_named c =
     let a = c.args in
-    let name = sym c.read_u2.ensures ∙ c.in-Value.is in
+    let name = sym c.read_u2.ensures ∙ c.in-Some.is in
     let named = sym c.is_name.ensures ∙ c.if-is_name.true in
     let table = sym c.is_named.ensures ∙ c.if-is_named.true in
     told run_of (code_attribute_format (names_by a.file.now a.table.now) a.limit)
-    (number_right name named (rw table (window-right (sym c.read_window.ensures ∙ c.in-Inside.is) (record { is = sym c.read_local_table.ensures }))))
+    (number_right name named (rw table (window-right (sym c.read_window.ensures ∙ c.in-Some-read_window.is) (record { is = sym c.read_local_table.ensures }))))
 
 pub returns-then-is_name : goal.returns-then-is_name
 unfolding code_attribute_format
 returns-then-is_name c =
     let a = c.args in
-    let name = sym c.read_u2.ensures ∙ c.in-Value.is in
+    let name = sym c.read_u2.ensures ∙ c.in-Some.is in
     let named = sym c.is_name.ensures ∙ c.if-is_name.true in
     let table = sym c.is_named.ensures ∙ c.if-is_named.false in
     told run_of (code_attribute_format (names_by a.file.now a.table.now) a.limit) (number_right name named (rw table (passing [] c.pass_over.ensures)))
@@ -47,6 +47,6 @@ pub returns : goal.returns
 unfolding code_attribute_format
 returns c =
     let a = c.args in
-    let name = sym c.read_u2.ensures ∙ c.in-Value.is in
+    let name = sym c.read_u2.ensures ∙ c.in-Some.is in
     let unnamed = sym c.is_name.ensures ∙ c.if-is_name.false in
     told run_of (code_attribute_format (names_by a.file.now a.table.now) a.limit) (number_bad name unnamed)

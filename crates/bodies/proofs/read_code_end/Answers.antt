@@ -1,5 +1,6 @@
 -- `bodies::read_code_end` meets its contract.
 -- Assumes nothing.
+use Rattle.std.specs.Prelude.{Ok}
 use mathlib.Core.Path.{refl, ◌∙◌, sym}
 use Rattle.format.specs.Format.{full, done, times}
 use Rattle.format.specs.Items.{run_of}
@@ -18,19 +19,19 @@ pub returns-then-next-limit : goal.returns-then-next-limit
 unfolding code_end_format
 returns-then-next-limit c =
     let a = c.args in
-    let count = sym c.read_u2.ensures ∙ c.in-Value.is in
-    told run_of (code_end_format (names_by a.file.now a.table.now) a.limit) (number_right count refl (then_right (times c.in-Value.count (code_attribute_format (names_by a.file.now a.table.now) a.limit)) (λ tables. full a.limit (done (joined tables))) (sym c.read_code_attributes.ensures ∙ c.in_ok-next.was) (λ read. more_there c.if-next-limit.true)))
+    let count = sym c.read_u2.ensures ∙ c.in-Some.is in
+    told run_of (code_end_format (names_by a.file.now a.table.now) a.limit) (number_right count refl (then_right (times c.in-Some.count (code_attribute_format (names_by a.file.now a.table.now) a.limit)) (λ tables. full a.limit (done (joined tables))) (sym c.read_code_attributes.ensures ∙ c.in_ok-next.was) (λ read. more_there c.if-next-limit.true)))
 
 pub returns : goal.returns
 unfolding code_end_format
 returns c =
     let a = c.args in
-    let count = sym c.read_u2.ensures ∙ c.in-Value.is in
-    told run_of (code_end_format (names_by a.file.now a.table.now) a.limit) (number_right count refl (then_right (times c.in-Value.count (code_attribute_format (names_by a.file.now a.table.now) a.limit)) (λ tables. full a.limit (done (joined tables))) (sym c.read_code_attributes.ensures ∙ c.in_ok-next.was) (λ read. all_read c.if-next-limit.false all_done)))
+    let count = sym c.read_u2.ensures ∙ c.in-Some.is in
+    told run_of (code_end_format (names_by a.file.now a.table.now) a.limit) (number_right {answer = Ok c.in_ok-next.next} count refl (then_right (times c.in-Some.count (code_attribute_format (names_by a.file.now a.table.now) a.limit)) (λ tables. full a.limit (done (joined tables))) (sym c.read_code_attributes.ensures ∙ c.in_ok-next.was) (λ read. all_read c.if-next-limit.false all_done)))
 
 pub returns-in_err-next : goal.returns-in_err-next
 unfolding code_end_format
 returns-in_err-next c =
     let a = c.args in
-    let count = sym c.read_u2.ensures ∙ c.in-Value.is in
-    passed_on c.from_residual.ensures.1 ∙ told run_of (code_end_format (names_by a.file.now a.table.now) a.limit) (number_right count refl (then_wrong (times c.in-Value.count (code_attribute_format (names_by a.file.now a.table.now) a.limit)) (λ tables. full a.limit (done (joined tables))) (sym c.read_code_attributes.ensures ∙ c.in_err-next.was)))
+    let count = sym c.read_u2.ensures ∙ c.in-Some.is in
+    passed_on c.from_residual.ensures.1 ∙ told run_of (code_end_format (names_by a.file.now a.table.now) a.limit) (number_right count refl (then_wrong (times c.in-Some.count (code_attribute_format (names_by a.file.now a.table.now) a.limit)) (λ tables. full a.limit (done (joined tables))) (sym c.read_code_attributes.ensures ∙ c.in_err-next.was)))

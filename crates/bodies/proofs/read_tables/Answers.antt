@@ -17,7 +17,7 @@ pub returns : goal.returns
 unfolding code_tables_format
 returns c =
     let a = c.args in
-    let count = sym c.read_u2.ensures ∙ c.in-Value.is in
+    let count = sym c.read_u2.ensures ∙ c.in-Some.is in
     c.read_code_end.ensures
     ∙ told run_of (code_tables_format (names_by a.file.now a.table.now) a.limit) (number_right count refl (then_right _ _ (sym c.read_handlers.ensures ∙ c.in_ok-next.was) (λ handlers. then_done _ _)))
 
@@ -25,5 +25,5 @@ pub returns-in_err-next : goal.returns-in_err-next
 unfolding code_tables_format
 returns-in_err-next c =
     let a = c.args in
-    let count = sym c.read_u2.ensures ∙ c.in-Value.is in
+    let count = sym c.read_u2.ensures ∙ c.in-Some.is in
     passed_on c.from_residual.ensures.1 ∙ told run_of (code_tables_format (names_by a.file.now a.table.now) a.limit) (number_right count refl (then_wrong _ _ (sym c.read_handlers.ensures ∙ c.in_err-next.was)))

@@ -1,5 +1,6 @@
 -- `classfile::read_end` meets its contract.
 -- Assumes nothing.
+use Rattle.std.specs.Prelude.{Ok}
 use mathlib.Core.Path.{refl, ◌∙◌, sym}
 use Rattle.format.specs.Items.{run_of}
 use Rattle.format.proofs.Items.{passed_on, told, number_cut, number_right, then_right, then_wrong, all_read, more_there, all_done}
@@ -17,19 +18,19 @@ pub returns-then-next-limit : goal.returns-then-next-limit
 unfolding end_format
 returns-then-next-limit c =
     let a = c.args in
-    let count = sym c.read_u2.ensures ∙ c.in-Value.is in
+    let count = sym c.read_u2.ensures ∙ c.in-Some.is in
     told run_of (end_format (names_by a.file.now a.table.now) a.limit) (number_right count refl (then_right _ _ (sym c.read_attributes.ensures ∙ c.in_ok-next.was) (λ attributes. more_there c.if-next-limit.true)))
 
 pub returns : goal.returns
 unfolding end_format
 returns c =
     let a = c.args in
-    let count = sym c.read_u2.ensures ∙ c.in-Value.is in
-    told run_of (end_format (names_by a.file.now a.table.now) a.limit) (number_right count refl (then_right _ _ (sym c.read_attributes.ensures ∙ c.in_ok-next.was) (λ attributes. all_read c.if-next-limit.false all_done)))
+    let count = sym c.read_u2.ensures ∙ c.in-Some.is in
+    told run_of (end_format (names_by a.file.now a.table.now) a.limit) (number_right {answer = Ok c.in_ok-next.next} count refl (then_right _ _ (sym c.read_attributes.ensures ∙ c.in_ok-next.was) (λ attributes. all_read c.if-next-limit.false all_done)))
 
 pub returns-in_err-next : goal.returns-in_err-next
 unfolding end_format
 returns-in_err-next c =
     let a = c.args in
-    let count = sym c.read_u2.ensures ∙ c.in-Value.is in
+    let count = sym c.read_u2.ensures ∙ c.in-Some.is in
     passed_on c.from_residual.ensures.1 ∙ told run_of (end_format (names_by a.file.now a.table.now) a.limit) (number_right count refl (then_wrong _ _ (sym c.read_attributes.ensures ∙ c.in_err-next.was)))

@@ -17,5 +17,5 @@ pub returns : goal.returns
 unfolding fields_format
 returns c =
     let a = c.args in
-    let count = sym c.read_u2.ensures ∙ c.in-Value.is in
+    let count = sym c.read_u2.ensures ∙ c.in-Some.is in
     c.read_fields.ensures ∙ told run_of (fields_format (names_by a.file.now a.table.now) a.limit) (number_right count refl (then_done _ _))

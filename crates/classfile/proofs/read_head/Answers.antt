@@ -16,33 +16,33 @@ pub returns-in_default-read_u2 : goal.returns-in_default-read_u2
 unfolding head_format
 returns-in_default-read_u2 c =
     let a = c.args in
-    let flags = sym c.read_u2.ensures ∙ c.in-Value.is in
+    let flags = sym c.read_u2.ensures ∙ c.in-Some.is in
     told run_of (head_format a.limit) (number_right flags refl (number_cut (sym c.read_u2-2.ensures ∙ c.in_default-read_u2.is)))
 
 pub returns-in_default-read_u2-2 : goal.returns-in_default-read_u2-2
 unfolding head_format
 returns-in_default-read_u2-2 c =
     let a = c.args in
-    let flags = sym c.read_u2.ensures ∙ c.in-Value.is in
-    let this = sym c.read_u2-2.ensures ∙ c.in-Value-read_u2.is in
+    let flags = sym c.read_u2.ensures ∙ c.in-Some.is in
+    let this = sym c.read_u2-2.ensures ∙ c.in-Some-read_u2.is in
     told run_of (head_format a.limit) (number_right flags refl (number_right this refl (number_cut (sym c.read_u2-3.ensures ∙ c.in_default-read_u2-2.is))))
 
 pub returns-in_default-read_u2-3 : goal.returns-in_default-read_u2-3
 unfolding head_format
 returns-in_default-read_u2-3 c =
     let a = c.args in
-    let flags = sym c.read_u2.ensures ∙ c.in-Value.is in
-    let this = sym c.read_u2-2.ensures ∙ c.in-Value-read_u2.is in
-    let super = sym c.read_u2-3.ensures ∙ c.in-Value-read_u2-2.is in
+    let flags = sym c.read_u2.ensures ∙ c.in-Some.is in
+    let this = sym c.read_u2-2.ensures ∙ c.in-Some-read_u2.is in
+    let super = sym c.read_u2-3.ensures ∙ c.in-Some-read_u2-2.is in
     told run_of (head_format a.limit) (number_right flags refl (number_right this refl (number_right super refl (number_cut (sym c.read_u2-4.ensures ∙ c.in_default-read_u2-3.is)))))
 
 pub returns : goal.returns
 unfolding head_format
 returns c =
     let a = c.args in
-    let flags = sym c.read_u2.ensures ∙ c.in-Value.is in
-    let this = sym c.read_u2-2.ensures ∙ c.in-Value-read_u2.is in
-    let super = sym c.read_u2-3.ensures ∙ c.in-Value-read_u2-2.is in
-    let count = sym c.read_u2-4.ensures ∙ c.in-Value-read_u2-3.is in
+    let flags = sym c.read_u2.ensures ∙ c.in-Some.is in
+    let this = sym c.read_u2-2.ensures ∙ c.in-Some-read_u2.is in
+    let super = sym c.read_u2-3.ensures ∙ c.in-Some-read_u2-2.is in
+    let count = sym c.read_u2-4.ensures ∙ c.in-Some-read_u2-3.is in
     c.read_interfaces.ensures
     ∙ told run_of (head_format a.limit) (number_right flags refl (number_right this refl (number_right super refl (number_right count refl (then_done _ _)))))

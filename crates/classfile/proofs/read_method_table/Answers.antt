@@ -21,22 +21,22 @@ pub returns-in-Ok-read_end : goal.returns-in-Ok-read_end
 unfolding methods_format
 returns-in-Ok-read_end c =
     let a = c.args in
-    let count = sym c.read_u2.ensures ∙ c.in-Value.is in
-    let read = ended (read_by (times c.in-Value.count (method_format (names_by a.file.now a.table.now) a.limit)) a.file.now c.in-Value.from) (sym c.read_methods.ensures ∙ c.in-Ok.is) in
-    ap (λ (n : ℕ). Read c.in-Value.from n) (sym (so_many (method_format (names_by a.file.now a.table.now) a.limit) c.in-Value.count a.file.now c.in-Value.from read.1))
+    let count = sym c.read_u2.ensures ∙ c.in-Some.is in
+    let read = ended (read_by (times c.in-Some.count (method_format (names_by a.file.now a.table.now) a.limit)) a.file.now c.in-Some.from) (sym c.read_methods.ensures ∙ c.in-Ok.is) in
+    ap (λ (n : ℕ). Read c.in-Some.from n) (sym (so_many (method_format (names_by a.file.now a.table.now) a.limit) c.in-Some.count a.file.now c.in-Some.from read.1))
     ∙ told methods_told (methods_format (names_by a.file.now a.table.now) a.limit) (number_right count refl (told_here (then-read _ _ read.1 (then_right _ _ (sym c.read_end.ensures ∙ c.in-Ok-read_end.is) (λ end. all_done)))))
 
 pub returns-in-Err-read_end : goal.returns-in-Err-read_end
 unfolding methods_format
 returns-in-Err-read_end c =
     let a = c.args in
-    let count = sym c.read_u2.ensures ∙ c.in-Value.is in
-    let read = ended (read_by (times c.in-Value.count (method_format (names_by a.file.now a.table.now) a.limit)) a.file.now c.in-Value.from) (sym c.read_methods.ensures ∙ c.in-Ok.is) in
+    let count = sym c.read_u2.ensures ∙ c.in-Some.is in
+    let read = ended (read_by (times c.in-Some.count (method_format (names_by a.file.now a.table.now) a.limit)) a.file.now c.in-Some.from) (sym c.read_methods.ensures ∙ c.in-Ok.is) in
     told methods_told (methods_format (names_by a.file.now a.table.now) a.limit) (number_right count refl (told_here (then-read _ _ read.1 (then_wrong _ _ (sym c.read_end.ensures ∙ c.in-Err-read_end.is)))))
 
 pub returns-in-Err : goal.returns-in-Err
 unfolding methods_format
 returns-in-Err c =
     let a = c.args in
-    let count = sym c.read_u2.ensures ∙ c.in-Value.is in
+    let count = sym c.read_u2.ensures ∙ c.in-Some.is in
     told methods_told (methods_format (names_by a.file.now a.table.now) a.limit) (number_right count refl (told_here (then_wrong _ _ (sym c.read_methods.ensures ∙ c.in-Err.is))))

@@ -27,8 +27,8 @@ returns-in_default-read_u2 c =
     let a = c.args in
     let file = a.file.now in
     let before = a.table.now in
-    let magic = sym c.read_u4.ensures ∙ c.in-Value.is in
-    let rightly = eq-eqb c.in-Value.magic 0xcafebabe c.if-magic-eq-MAGIC.true in record { answers = told start_told (start_format (length file)) (number_right magic rightly (number_cut (sym c.read_u2.ensures ∙ c.in_default-read_u2.is))); keeps = left_short file before (minor_short file magic (sym c.read_u2.ensures ∙ c.in_default-read_u2.is)) }
+    let magic = sym c.read_u4.ensures ∙ c.in-Some.is in
+    let rightly = eq-eqb c.in-Some.magic 0xcafebabe c.if-magic-eq-MAGIC.true in record { answers = told start_told (start_format (length file)) (number_right magic rightly (number_cut (sym c.read_u2.ensures ∙ c.in_default-read_u2.is))); keeps = left_short file before (minor_short file magic (sym c.read_u2.ensures ∙ c.in_default-read_u2.is)) }
 
 pub returns-in_default-read_u2-2 : goal.returns-in_default-read_u2-2
 unfolding start_format
@@ -36,9 +36,9 @@ returns-in_default-read_u2-2 c =
     let a = c.args in
     let file = a.file.now in
     let before = a.table.now in
-    let magic = sym c.read_u4.ensures ∙ c.in-Value.is in
-    let rightly = eq-eqb c.in-Value.magic 0xcafebabe c.if-magic-eq-MAGIC.true in
-    let minor = sym c.read_u2.ensures ∙ c.in-Value-read_u2.is in record { answers = told start_told (start_format (length file)) (number_right magic rightly (number_right minor refl (number_cut (sym c.read_u2-then-magic-eq-MAGIC.ensures ∙ c.in_default-read_u2-2.is)))); keeps = left_short file before (major_short file magic minor (sym c.read_u2-then-magic-eq-MAGIC.ensures ∙ c.in_default-read_u2-2.is)) }
+    let magic = sym c.read_u4.ensures ∙ c.in-Some.is in
+    let rightly = eq-eqb c.in-Some.magic 0xcafebabe c.if-magic-eq-MAGIC.true in
+    let minor = sym c.read_u2.ensures ∙ c.in-Some-read_u2.is in record { answers = told start_told (start_format (length file)) (number_right magic rightly (number_right minor refl (number_cut (sym c.read_u2-then-magic-eq-MAGIC.ensures ∙ c.in_default-read_u2-2.is)))); keeps = left_short file before (major_short file magic minor (sym c.read_u2-then-magic-eq-MAGIC.ensures ∙ c.in_default-read_u2-2.is)) }
 
 pub returns-in_default-read_u2-3 : goal.returns-in_default-read_u2-3
 unfolding start_format
@@ -46,10 +46,10 @@ returns-in_default-read_u2-3 c =
     let a = c.args in
     let file = a.file.now in
     let before = a.table.now in
-    let magic = sym c.read_u4.ensures ∙ c.in-Value.is in
-    let rightly = eq-eqb c.in-Value.magic 0xcafebabe c.if-magic-eq-MAGIC.true in
-    let minor = sym c.read_u2.ensures ∙ c.in-Value-read_u2.is in
-    let major = sym c.read_u2-then-magic-eq-MAGIC.ensures ∙ c.in-Value-read_u2-2.is in record { answers = told start_told (start_format (length file)) (number_right magic rightly (number_right minor refl (number_right major refl (number_cut (sym c.read_u2-then-magic-eq-MAGIC-2.ensures ∙ c.in_default-read_u2-3.is))))); keeps = left_short file before (count_short file magic minor major (sym c.read_u2-then-magic-eq-MAGIC-2.ensures ∙ c.in_default-read_u2-3.is)) }
+    let magic = sym c.read_u4.ensures ∙ c.in-Some.is in
+    let rightly = eq-eqb c.in-Some.magic 0xcafebabe c.if-magic-eq-MAGIC.true in
+    let minor = sym c.read_u2.ensures ∙ c.in-Some-read_u2.is in
+    let major = sym c.read_u2-then-magic-eq-MAGIC.ensures ∙ c.in-Some-read_u2-2.is in record { answers = told start_told (start_format (length file)) (number_right magic rightly (number_right minor refl (number_right major refl (number_cut (sym c.read_u2-then-magic-eq-MAGIC-2.ensures ∙ c.in_default-read_u2-3.is))))); keeps = left_short file before (count_short file magic minor major (sym c.read_u2-then-magic-eq-MAGIC-2.ensures ∙ c.in_default-read_u2-3.is)) }
 
 pub returns-in-Ok : goal.returns-in-Ok
 unfolding start_format
@@ -57,17 +57,17 @@ returns-in-Ok c =
     let a = c.args in
     let file = a.file.now in
     let before = a.table.now in
-    let magic = sym c.read_u4.ensures ∙ c.in-Value.is in
-    let rightly = eq-eqb c.in-Value.magic 0xcafebabe c.if-magic-eq-MAGIC.true in
-    let minor = sym c.read_u2.ensures ∙ c.in-Value-read_u2.is in
-    let major = sym c.read_u2-then-magic-eq-MAGIC.ensures ∙ c.in-Value-read_u2-2.is in
-    let count = sym c.read_u2-then-magic-eq-MAGIC-2.ensures ∙ c.in-Value-read_u2-3.is in
-    let some = lt-ltb 0 c.in-Value-read_u2-3.count c.if-count-gt0.true in
+    let magic = sym c.read_u4.ensures ∙ c.in-Some.is in
+    let rightly = eq-eqb c.in-Some.magic 0xcafebabe c.if-magic-eq-MAGIC.true in
+    let minor = sym c.read_u2.ensures ∙ c.in-Some-read_u2.is in
+    let major = sym c.read_u2-then-magic-eq-MAGIC.ensures ∙ c.in-Some-read_u2-2.is in
+    let count = sym c.read_u2-then-magic-eq-MAGIC-2.ensures ∙ c.in-Some-read_u2-3.is in
+    let some = lt-ltb 0 c.in-Some-read_u2-3.count c.if-count-gt0.true in
     let place = pool_at file magic minor major count in
     let number = count_is file magic minor major count in
     let kept = c.read_pool.ensures.keeps ∙ ap (λ (n : ℕ). placed (length before) (places_in file n)) (sym number)
     ∙ filled file before (long file magic minor major count) (magic_is file magic ∙ c.if-magic-eq-MAGIC.true) (subst (λ (n : ℕ). 0 < n) (sym number) c.if-count-gt0.true) in
-    let read = ended (read_by (pool_format (length file) (c.in-Value-read_u2-3.count - 1) false) file 10) (sym c.read_pool.ensures.answers ∙ c.in-Ok.is) in record { answers = told start_told (start_format (length file)) (number_right magic rightly (number_right minor refl (number_right major refl (number_right count some (rw place (then-read _ _ read.1 all_done)))))); keeps = kept }
+    let read = ended (read_by (pool_format (length file) (c.in-Some-read_u2-3.count - 1) false) file 10) (sym c.read_pool.ensures.answers ∙ c.in-Ok.is) in record { answers = told start_told (start_format (length file)) (number_right magic rightly (number_right minor refl (number_right major refl (number_right count some (rw place (then-read _ _ read.1 all_done)))))); keeps = kept }
 
 pub returns-in-Err : goal.returns-in-Err
 unfolding start_format
@@ -75,12 +75,12 @@ returns-in-Err c =
     let a = c.args in
     let file = a.file.now in
     let before = a.table.now in
-    let magic = sym c.read_u4.ensures ∙ c.in-Value.is in
-    let rightly = eq-eqb c.in-Value.magic 0xcafebabe c.if-magic-eq-MAGIC.true in
-    let minor = sym c.read_u2.ensures ∙ c.in-Value-read_u2.is in
-    let major = sym c.read_u2-then-magic-eq-MAGIC.ensures ∙ c.in-Value-read_u2-2.is in
-    let count = sym c.read_u2-then-magic-eq-MAGIC-2.ensures ∙ c.in-Value-read_u2-3.is in
-    let some = lt-ltb 0 c.in-Value-read_u2-3.count c.if-count-gt0.true in
+    let magic = sym c.read_u4.ensures ∙ c.in-Some.is in
+    let rightly = eq-eqb c.in-Some.magic 0xcafebabe c.if-magic-eq-MAGIC.true in
+    let minor = sym c.read_u2.ensures ∙ c.in-Some-read_u2.is in
+    let major = sym c.read_u2-then-magic-eq-MAGIC.ensures ∙ c.in-Some-read_u2-2.is in
+    let count = sym c.read_u2-then-magic-eq-MAGIC-2.ensures ∙ c.in-Some-read_u2-3.is in
+    let some = lt-ltb 0 c.in-Some-read_u2-3.count c.if-count-gt0.true in
     let place = pool_at file magic minor major count in
     let number = count_is file magic minor major count in
     let kept = c.read_pool.ensures.keeps ∙ ap (λ (n : ℕ). placed (length before) (places_in file n)) (sym number)
@@ -92,12 +92,12 @@ returns-then-magic-eq-MAGIC c =
     let a = c.args in
     let file = a.file.now in
     let before = a.table.now in
-    let magic = sym c.read_u4.ensures ∙ c.in-Value.is in
-    let rightly = eq-eqb c.in-Value.magic 0xcafebabe c.if-magic-eq-MAGIC.true in
-    let minor = sym c.read_u2.ensures ∙ c.in-Value-read_u2.is in
-    let major = sym c.read_u2-then-magic-eq-MAGIC.ensures ∙ c.in-Value-read_u2-2.is in
-    let count = sym c.read_u2-then-magic-eq-MAGIC-2.ensures ∙ c.in-Value-read_u2-3.is in
-    let none = le-ltb 0 c.in-Value-read_u2-3.count c.if-count-gt0.false in
+    let magic = sym c.read_u4.ensures ∙ c.in-Some.is in
+    let rightly = eq-eqb c.in-Some.magic 0xcafebabe c.if-magic-eq-MAGIC.true in
+    let minor = sym c.read_u2.ensures ∙ c.in-Some-read_u2.is in
+    let major = sym c.read_u2-then-magic-eq-MAGIC.ensures ∙ c.in-Some-read_u2-2.is in
+    let count = sym c.read_u2-then-magic-eq-MAGIC-2.ensures ∙ c.in-Some-read_u2-3.is in
+    let none = le-ltb 0 c.in-Some-read_u2-3.count c.if-count-gt0.false in
     let number = count_is file magic minor major count in record { answers = told start_told (start_format (length file)) (number_right magic rightly (number_right minor refl (number_right major refl (number_bad count none)))); keeps = left_empty file before (subst (λ (n : ℕ). n ≤ 0) (sym number) c.if-count-gt0.false) }
 
 pub returns : goal.returns
@@ -106,5 +106,5 @@ returns c =
     let a = c.args in
     let file = a.file.now in
     let before = a.table.now in
-    let magic = sym c.read_u4.ensures ∙ c.in-Value.is in
-    let strange = ne_eqb c.in-Value.magic 0xcafebabe c.if-magic-eq-MAGIC.false in record { answers = told start_told (start_format (length file)) (number_bad magic strange); keeps = left_strange file before (λ e. c.if-magic-eq-MAGIC.false (sym (magic_is file magic) ∙ e)) }
+    let magic = sym c.read_u4.ensures ∙ c.in-Some.is in
+    let strange = ne_eqb c.in-Some.magic 0xcafebabe c.if-magic-eq-MAGIC.false in record { answers = told start_told (start_format (length file)) (number_bad magic strange); keeps = left_strange file before (λ e. c.if-magic-eq-MAGIC.false (sym (magic_is file magic) ∙ e)) }

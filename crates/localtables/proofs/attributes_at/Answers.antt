@@ -35,22 +35,22 @@ unfolding code_tables_format
 returns-in_default-read_handlers c =
     let a = c.args in
     let tables = run_right (code_tables_format (names_by a.file.now a.table.now) a.limit) a.file.now a.at (sym c.read_tables.ensures ∙ c.in-Ok.is) in
-    then_unwrong _ _ (number_behind tables.1 (sym c.read_u2.ensures ∙ c.in-Value.is)) (sym c.read_handlers.ensures ∙ c.in_default-read_handlers.is)
+    then_unwrong _ _ (number_behind tables.1 (sym c.read_u2.ensures ∙ c.in-Some.is)) (sym c.read_handlers.ensures ∙ c.in_default-read_handlers.is)
 
 pub returns-in_default-read_u2-2 : goal.returns-in_default-read_u2-2
 unfolding code_end_format
 returns-in_default-read_u2-2 c =
     let a = c.args in
     let tables = run_right (code_tables_format (names_by a.file.now a.table.now) a.limit) a.file.now a.at (sym c.read_tables.ensures ∙ c.in-Ok.is) in
-    let behind = tables_behind (names_by a.file.now a.table.now) a.limit a.file.now a.at tables.1 (sym c.read_u2.ensures ∙ c.in-Value.is) (sym c.read_handlers.ensures ∙ c.in-Ok-read_handlers.is) in
+    let behind = tables_behind (names_by a.file.now a.table.now) a.limit a.file.now a.at tables.1 (sym c.read_u2.ensures ∙ c.in-Some.is) (sym c.read_handlers.ensures ∙ c.in-Ok-read_handlers.is) in
     number_uncut behind.1 (sym c.read_u2-2.ensures ∙ c.in_default-read_u2-2.is)
 
 pub returns : goal.returns
 returns c =
     let a = c.args in
     let tables = run_right (code_tables_format (names_by a.file.now a.table.now) a.limit) a.file.now a.at (sym c.read_tables.ensures ∙ c.in-Ok.is) in
-    let behind = tables_behind (names_by a.file.now a.table.now) a.limit a.file.now a.at tables.1 (sym c.read_u2.ensures ∙ c.in-Value.is) (sym c.read_handlers.ensures ∙ c.in-Ok-read_handlers.is) in
-    let counted = sym c.read_u2-2.ensures ∙ c.in-Value-read_u2.is in
+    let behind = tables_behind (names_by a.file.now a.table.now) a.limit a.file.now a.at tables.1 (sym c.read_u2.ensures ∙ c.in-Some.is) (sym c.read_handlers.ensures ∙ c.in-Ok-read_handlers.is) in
+    let counted = sym c.read_u2-2.ensures ∙ c.in-Some-read_u2.is in
     let all = tables_joined (names_by a.file.now a.table.now) a.limit a.file.now c.in-Ok-read_handlers.count_at behind.1 counted in (
       all.0,
       all.1,

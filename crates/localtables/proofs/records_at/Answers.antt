@@ -27,7 +27,7 @@ returns-in_default-read_window c =
       omega arith,
       λ locals end is.
           let due = judged (code_attribute_format (names_by a.file.now a.table.now) a.limit) a.file.now a.at is in
-          let behind = table_behind (names_by a.file.now a.table.now) a.limit a.file.now a.at due (sym c.read_u2.ensures ∙ c.in-Value.is) (sym c.is_named.ensures ∙ c.if-is_named.true) in
+          let behind = table_behind (names_by a.file.now a.table.now) a.limit a.file.now a.at due (sym c.read_u2.ensures ∙ c.in-Some.is) (sym c.is_named.ensures ∙ c.if-is_named.true) in
           window_uncut behind (sym c.read_window.ensures ∙ c.in_default-read_window.is),
     )
 
@@ -38,19 +38,19 @@ returns-in_default-read_u2 c =
       omega arith,
       λ locals end is.
           let due = judged (code_attribute_format (names_by a.file.now a.table.now) a.limit) a.file.now a.at is in
-          let behind = table_behind (names_by a.file.now a.table.now) a.limit a.file.now a.at due (sym c.read_u2.ensures ∙ c.in-Value.is) (sym c.is_named.ensures ∙ c.if-is_named.true) in
-          number_uncut (window_behind behind (sym c.read_window.ensures ∙ c.in-Inside.is)) (sym c.read_u2-then-is_named.ensures ∙ c.in_default-read_u2.is),
+          let behind = table_behind (names_by a.file.now a.table.now) a.limit a.file.now a.at due (sym c.read_u2.ensures ∙ c.in-Some.is) (sym c.is_named.ensures ∙ c.if-is_named.true) in
+          number_uncut (window_behind behind (sym c.read_window.ensures ∙ c.in-Some-read_window.is)) (sym c.read_u2-then-is_named.ensures ∙ c.in_default-read_u2.is),
     )
 
 pub returns-then-is_named : goal.returns-then-is_named
 returns-then-is_named c =
     let a = c.args in
-    let counted = sym c.read_u2-then-is_named.ensures ∙ c.in-Value-read_u2.is in (
-      two_below c.in-Inside.stop a.file.now c.in-Inside.start (λ i. (c.type_inv.file i).fits) counted,
+    let counted = sym c.read_u2-then-is_named.ensures ∙ c.in-Some-read_u2.is in (
+      two_below c.in-Some-read_window.stop a.file.now c.in-Some-read_window.start (λ i. (c.type_inv.file i).fits) counted,
       λ locals end is.
           let due = judged (code_attribute_format (names_by a.file.now a.table.now) a.limit) a.file.now a.at is in
-          let behind = table_behind (names_by a.file.now a.table.now) a.limit a.file.now a.at due (sym c.read_u2.ensures ∙ c.in-Value.is) (sym c.is_named.ensures ∙ c.if-is_named.true) in
-          table_filled (names_by a.file.now a.table.now) c.in-Inside.stop a.file.now c.in-Inside.start (window_behind behind (sym c.read_window.ensures ∙ c.in-Inside.is)) counted,
+          let behind = table_behind (names_by a.file.now a.table.now) a.limit a.file.now a.at due (sym c.read_u2.ensures ∙ c.in-Some.is) (sym c.is_named.ensures ∙ c.if-is_named.true) in
+          table_filled (names_by a.file.now a.table.now) c.in-Some-read_window.stop a.file.now c.in-Some-read_window.start (window_behind behind (sym c.read_window.ensures ∙ c.in-Some-read_window.is)) counted,
     )
 
 pub returns-in_default-pass_over : goal.returns-in_default-pass_over
@@ -59,7 +59,7 @@ returns-in_default-pass_over c =
       omega arith,
       λ locals end is.
           let due = judged (code_attribute_format (names_by a.file.now a.table.now) a.limit) a.file.now a.at is in
-          let behind = other_behind (names_by a.file.now a.table.now) a.limit a.file.now a.at due (sym c.read_u2.ensures ∙ c.in-Value.is) (sym c.is_named.ensures ∙ c.if-is_named.false) in
+          let behind = other_behind (names_by a.file.now a.table.now) a.limit a.file.now a.at due (sym c.read_u2.ensures ∙ c.in-Some.is) (sym c.is_named.ensures ∙ c.if-is_named.false) in
           passed_unwrong behind (sym c.pass_over.ensures ∙ c.in_default-pass_over.is),
     )
 
@@ -69,7 +69,7 @@ returns c =
       omega arith,
       λ locals end is.
           let due = judged (code_attribute_format (names_by a.file.now a.table.now) a.limit) a.file.now a.at is in
-          let behind = other_behind (names_by a.file.now a.table.now) a.limit a.file.now a.at due (sym c.read_u2.ensures ∙ c.in-Value.is) (sym c.is_named.ensures ∙ c.if-is_named.false) in
+          let behind = other_behind (names_by a.file.now a.table.now) a.limit a.file.now a.at due (sym c.read_u2.ensures ∙ c.in-Some.is) (sym c.is_named.ensures ∙ c.if-is_named.false) in
           let stop = c.in-Ok.stop in
           let passed = passed_behind behind (sym c.pass_over.ensures ∙ c.in-Ok.is) in
           (passed.1, no_times (local_format (names_by a.file.now a.table.now) stop) a.file.now stop ∙ ap (λ (ls : List Local). right ls stop) passed.0 ∙ ap (right locals) passed.1),

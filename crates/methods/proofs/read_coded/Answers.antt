@@ -22,13 +22,13 @@ pub returns-in-Read : goal.returns-in-Read
 unfolding coded_format
 returns-in-Read c =
     let a = c.args in
-    let read = code_read (read_by (code_format (names_by a.file.now a.table.now) c.in-Inside.stop) a.file.now c.in-Inside.start) (sym c.read_code.ensures ∙ c.in-Read.is) in
+    let read = code_read (read_by (code_format (names_by a.file.now a.table.now) c.in-Some.stop) a.file.now c.in-Some.start) (sym c.read_code.ensures ∙ c.in-Read.is) in
     ap (λ (place : CodePlace). Read (Coded place) c.in-Read.next) (sym read.2)
-    ∙ told body_told (coded_format (names_by a.file.now a.table.now) a.limit) (window-right (sym c.read_window.ensures ∙ c.in-Inside.is) (then-read _ _ read.1 all_done))
+    ∙ told body_told (coded_format (names_by a.file.now a.table.now) a.limit) (window-right (sym c.read_window.ensures ∙ c.in-Some.is) (then-read _ _ read.1 all_done))
 
 pub returns-in-Wrong : goal.returns-in-Wrong
 unfolding coded_format
 returns-in-Wrong c =
     let a = c.args in
-    let wrong-is = code_wrong (read_by (code_format (names_by a.file.now a.table.now) c.in-Inside.stop) a.file.now c.in-Inside.start) (sym c.read_code.ensures ∙ c.in-Wrong.is) in
-    told body_told (coded_format (names_by a.file.now a.table.now) a.limit) (window-right (sym c.read_window.ensures ∙ c.in-Inside.is) (then_failed _ _ wrong-is))
+    let wrong-is = code_wrong (read_by (code_format (names_by a.file.now a.table.now) c.in-Some.stop) a.file.now c.in-Some.start) (sym c.read_code.ensures ∙ c.in-Wrong.is) in
+    told body_told (coded_format (names_by a.file.now a.table.now) a.limit) (window-right (sym c.read_window.ensures ∙ c.in-Some.is) (then_failed _ _ wrong-is))

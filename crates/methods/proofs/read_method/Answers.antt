@@ -23,15 +23,15 @@ pub returns-in_default-read_u2 : goal.returns-in_default-read_u2
 unfolding method_format
 returns-in_default-read_u2 c =
     let a = c.args in
-    let flags = sym c.read_u2.ensures ∙ c.in-Value.is in
+    let flags = sym c.read_u2.ensures ∙ c.in-Some.is in
     told method_told (method_format (names_by a.file.now a.table.now) a.limit) (number_right flags refl (number_cut (sym c.read_u2-2.ensures ∙ c.in_default-read_u2.is)))
 
 pub returns-in_default-read_u2-2 : goal.returns-in_default-read_u2-2
 unfolding method_format
 returns-in_default-read_u2-2 c =
     let a = c.args in
-    let flags = sym c.read_u2.ensures ∙ c.in-Value.is in
-    let name = sym c.read_u2-2.ensures ∙ c.in-Value-read_u2.is in
+    let flags = sym c.read_u2.ensures ∙ c.in-Some.is in
+    let name = sym c.read_u2-2.ensures ∙ c.in-Some-read_u2.is in
     let named = sym c.is_name.ensures ∙ c.if-is_name.true in
     told method_told (method_format (names_by a.file.now a.table.now) a.limit) (number_right flags refl (number_right name named (number_cut (sym c.read_u2-then-is_name.ensures ∙ c.in_default-read_u2-2.is))))
 
@@ -39,10 +39,10 @@ pub returns-in_default-read_u2-3 : goal.returns-in_default-read_u2-3
 unfolding method_format
 returns-in_default-read_u2-3 c =
     let a = c.args in
-    let flags = sym c.read_u2.ensures ∙ c.in-Value.is in
-    let name = sym c.read_u2-2.ensures ∙ c.in-Value-read_u2.is in
+    let flags = sym c.read_u2.ensures ∙ c.in-Some.is in
+    let name = sym c.read_u2-2.ensures ∙ c.in-Some-read_u2.is in
     let named = sym c.is_name.ensures ∙ c.if-is_name.true in
-    let descriptor = sym c.read_u2-then-is_name.ensures ∙ c.in-Value-read_u2-2.is in
+    let descriptor = sym c.read_u2-then-is_name.ensures ∙ c.in-Some-read_u2-2.is in
     let described = sym c.is_name-then-is_name.ensures ∙ c.if-is_name-2.true in
     told method_told (method_format (names_by a.file.now a.table.now) a.limit) (number_right flags refl (number_right name named (number_right descriptor described (number_cut (sym c.read_u2-then-is_name-2.ensures ∙ c.in_default-read_u2-3.is)))))
 
@@ -50,14 +50,14 @@ pub returns-in-Read : goal.returns-in-Read
 unfolding method_format
 returns-in-Read c =
     let a = c.args in
-    let flags = sym c.read_u2.ensures ∙ c.in-Value.is in
-    let name = sym c.read_u2-2.ensures ∙ c.in-Value-read_u2.is in
+    let flags = sym c.read_u2.ensures ∙ c.in-Some.is in
+    let name = sym c.read_u2-2.ensures ∙ c.in-Some-read_u2.is in
     let named = sym c.is_name.ensures ∙ c.if-is_name.true in
-    let descriptor = sym c.read_u2-then-is_name.ensures ∙ c.in-Value-read_u2-2.is in
+    let descriptor = sym c.read_u2-then-is_name.ensures ∙ c.in-Some-read_u2-2.is in
     let described = sym c.is_name-then-is_name.ensures ∙ c.if-is_name-2.true in
-    let count = sym c.read_u2-then-is_name-2.ensures ∙ c.in-Value-read_u2-3.is in
-    let read = body_read (read_by (each c.in-Value-read_u2-3.count (method_attribute_format (names_by a.file.now a.table.now) a.limit) bodiless) a.file.now c.in-Value-read_u2-3.from) (sym c.read_method_attributes.ensures ∙ c.in-Read.is) in
-    let place : BodyPlace → MethodPlace = λ body. record { flags = c.in-Value.flags; name = c.in-Value-read_u2.name; descriptor = c.in-Value-read_u2-2.descriptor; body = body; next = c.in-Read.next } in
+    let count = sym c.read_u2-then-is_name-2.ensures ∙ c.in-Some-read_u2-3.is in
+    let read = body_read (read_by (each c.in-Some-read_u2-3.count (method_attribute_format (names_by a.file.now a.table.now) a.limit) bodiless) a.file.now c.in-Some-read_u2-3.from) (sym c.read_method_attributes.ensures ∙ c.in-Read.is) in
+    let place : BodyPlace → MethodPlace = λ body. record { flags = c.in-Some.flags; name = c.in-Some-read_u2.name; descriptor = c.in-Some-read_u2-2.descriptor; body = body; next = c.in-Read.next } in
     ap (λ (body : BodyPlace). Read (place body)) (sym read.2)
     ∙ told method_told (method_format (names_by a.file.now a.table.now) a.limit) (number_right flags refl (number_right name named (number_right descriptor described (number_right count refl (then-read _ _ read.1 all_done)))))
 
@@ -65,23 +65,23 @@ pub returns-in-Wrong : goal.returns-in-Wrong
 unfolding method_format
 returns-in-Wrong c =
     let a = c.args in
-    let flags = sym c.read_u2.ensures ∙ c.in-Value.is in
-    let name = sym c.read_u2-2.ensures ∙ c.in-Value-read_u2.is in
+    let flags = sym c.read_u2.ensures ∙ c.in-Some.is in
+    let name = sym c.read_u2-2.ensures ∙ c.in-Some-read_u2.is in
     let named = sym c.is_name.ensures ∙ c.if-is_name.true in
-    let descriptor = sym c.read_u2-then-is_name.ensures ∙ c.in-Value-read_u2-2.is in
+    let descriptor = sym c.read_u2-then-is_name.ensures ∙ c.in-Some-read_u2-2.is in
     let described = sym c.is_name-then-is_name.ensures ∙ c.if-is_name-2.true in
-    let count = sym c.read_u2-then-is_name-2.ensures ∙ c.in-Value-read_u2-3.is in
-    let wrong-is = body_wrong (read_by (each c.in-Value-read_u2-3.count (method_attribute_format (names_by a.file.now a.table.now) a.limit) bodiless) a.file.now c.in-Value-read_u2-3.from) (sym c.read_method_attributes.ensures ∙ c.in-Wrong.is) in
+    let count = sym c.read_u2-then-is_name-2.ensures ∙ c.in-Some-read_u2-3.is in
+    let wrong-is = body_wrong (read_by (each c.in-Some-read_u2-3.count (method_attribute_format (names_by a.file.now a.table.now) a.limit) bodiless) a.file.now c.in-Some-read_u2-3.from) (sym c.read_method_attributes.ensures ∙ c.in-Wrong.is) in
     told method_told (method_format (names_by a.file.now a.table.now) a.limit) (number_right flags refl (number_right name named (number_right descriptor described (number_right count refl (then_failed _ _ wrong-is)))))
 
 pub returns-then-is_name : goal.returns-then-is_name
 unfolding method_format
 returns-then-is_name c =
     let a = c.args in
-    let flags = sym c.read_u2.ensures ∙ c.in-Value.is in
-    let name = sym c.read_u2-2.ensures ∙ c.in-Value-read_u2.is in
+    let flags = sym c.read_u2.ensures ∙ c.in-Some.is in
+    let name = sym c.read_u2-2.ensures ∙ c.in-Some-read_u2.is in
     let named = sym c.is_name.ensures ∙ c.if-is_name.true in
-    let descriptor = sym c.read_u2-then-is_name.ensures ∙ c.in-Value-read_u2-2.is in
+    let descriptor = sym c.read_u2-then-is_name.ensures ∙ c.in-Some-read_u2-2.is in
     let described = sym c.is_name-then-is_name.ensures ∙ c.if-is_name-2.false in
     told method_told (method_format (names_by a.file.now a.table.now) a.limit) (number_right flags refl (number_right name named (number_bad descriptor described)))
 
@@ -89,7 +89,7 @@ pub returns : goal.returns
 unfolding method_format
 returns c =
     let a = c.args in
-    let flags = sym c.read_u2.ensures ∙ c.in-Value.is in
-    let name = sym c.read_u2-2.ensures ∙ c.in-Value-read_u2.is in
+    let flags = sym c.read_u2.ensures ∙ c.in-Some.is in
+    let name = sym c.read_u2-2.ensures ∙ c.in-Some-read_u2.is in
     let named = sym c.is_name.ensures ∙ c.if-is_name.false in
     told method_told (method_format (names_by a.file.now a.table.now) a.limit) (number_right flags refl (number_bad name named))

@@ -18,36 +18,36 @@ pub returns-in-Bodiless : goal.returns-in-Bodiless
 unfolding method_attribute_format
 returns-in-Bodiless c =
     let a = c.args in
-    let name = sym c.read_u2.ensures ∙ c.in-Value.is in
+    let name = sym c.read_u2.ensures ∙ c.in-Some.is in
     let there = sym c.is_name.ensures ∙ c.if-is_name.true in
     let code = sym c.is_named.ensures ∙ c.if-is_named.true in
     λ before is.
     told body_told (method_attribute_format (names_by a.file.now a.table.now) a.limit before)
-    (number_right name (first_code (names_by a.file.now a.table.now) c.in-Value.name there before (is ∙ c.in-Bodiless.is)) (rw code (record { is = sym c.read_coded.ensures })))
+    (number_right name (first_code (names_by a.file.now a.table.now) c.in-Some.name there before (is ∙ c.in-Bodiless.is)) (rw code (record { is = sym c.read_coded.ensures })))
 
 pub returns-in-Coded : goal.returns-in-Coded
 unfolding method_attribute_format
 returns-in-Coded c =
     let a = c.args in
-    let name = sym c.read_u2.ensures ∙ c.in-Value.is in
+    let name = sym c.read_u2.ensures ∙ c.in-Some.is in
     let there = sym c.is_name.ensures ∙ c.if-is_name.true in
     let code = sym c.is_named.ensures ∙ c.if-is_named.true in
-    λ before is. told body_told (method_attribute_format (names_by a.file.now a.table.now) a.limit before) (number_bad name (second_code (names_by a.file.now a.table.now) c.in-Value.name there code before (is ∙ c.in-Coded.is)))
+    λ before is. told body_told (method_attribute_format (names_by a.file.now a.table.now) a.limit before) (number_bad name (second_code (names_by a.file.now a.table.now) c.in-Some.name there code before (is ∙ c.in-Coded.is)))
 
 pub returns-then-is_name : goal.returns-then-is_name
 unfolding method_attribute_format
 returns-then-is_name c =
     let a = c.args in
-    let name = sym c.read_u2.ensures ∙ c.in-Value.is in
+    let name = sym c.read_u2.ensures ∙ c.in-Some.is in
     let there = sym c.is_name.ensures ∙ c.if-is_name.true in
     let code = sym c.is_named.ensures ∙ c.if-is_named.false in
     λ before is.
-    told body_told (method_attribute_format (names_by a.file.now a.table.now) a.limit before) (number_right name (other_name (names_by a.file.now a.table.now) c.in-Value.name there code before) (rw code (record { is = sym (c.pass_attribute.ensures before is) })))
+    told body_told (method_attribute_format (names_by a.file.now a.table.now) a.limit before) (number_right name (other_name (names_by a.file.now a.table.now) c.in-Some.name there code before) (rw code (record { is = sym (c.pass_attribute.ensures before is) })))
 
 pub returns : goal.returns
 unfolding method_attribute_format
 returns c =
     let a = c.args in
-    let name = sym c.read_u2.ensures ∙ c.in-Value.is in
+    let name = sym c.read_u2.ensures ∙ c.in-Some.is in
     let unnamed = sym c.is_name.ensures ∙ c.if-is_name.false in
-    λ before is. told body_told (method_attribute_format (names_by a.file.now a.table.now) a.limit before) (number_bad name (nameless (names_by a.file.now a.table.now) c.in-Value.name unnamed before))
+    λ before is. told body_told (method_attribute_format (names_by a.file.now a.table.now) a.limit before) (number_bad name (nameless (names_by a.file.now a.table.now) c.in-Some.name unnamed before))
