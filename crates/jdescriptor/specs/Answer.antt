@@ -1,13 +1,12 @@
 -- What the strict readers answer and write (document 01, "Descriptors").
 -- Assumes nothing.
-use Rattle.std.specs.Prelude.{ℕ, ◌*◌, List, [], ◌∷◌, ◌++◌, ltb, length}
+use Rattle.std.specs.Prelude.{ℕ, ◌*◌, List, [], ◌∷◌, ◌++◌, ltb, length, Ok, Err}
 use Rattle.basics.specs.Choice.{pick}
 use Rattle.basics.specs.Parts.{overlaid}
 use Rattle.refusal.specs.declared.Refusal.TheVariants.{NoRoom}
 use Rattle.jtype.specs.declared.TypeRecord.{TypeRecord}
+use Rattle.judging.specs.Judged.{Answer}
 use Rattle.judging.specs.Reading.{Reading, types, refused}
-use Rattle.judging.specs.declared.Answer.{Answer}
-use Rattle.judging.specs.declared.Answer.TheVariants.{Types, Refused}
 
 -- "The strict reader writes four numbers a type, in order, the return last .. base letter, dimensions, name start in the
 -- descriptor, name length"
@@ -20,8 +19,8 @@ numbers_of (t ∷ ts) = four t ++ numbers_of ts
 
 -- "answers 0 with the count of types; 14 (added) if they don't fit, after 1 to 13"
 unfoldable pub answer : Reading → ℕ → Answer
-answer (types ts) room = pick (ltb room (4 * length ts)) (Refused NoRoom) (Types (length ts))
-answer (refused r) room = Refused r
+answer (types ts) room = pick (ltb room (4 * length ts)) (Err NoRoom) (Ok (length ts))
+answer (refused r) room = Err r
 
 -- "to a lent buffer .. the rest unchanged", "A refusal leaves it unchanged."
 unfoldable pub written : Reading → List ℕ → List ℕ

@@ -1,6 +1,6 @@
 -- A type that was read and a `)` lie within the text.
 -- Assumes nothing.
-use Rattle.std.specs.Prelude.{Option, Some, None}
+use Rattle.std.specs.Prelude.{Option, Some, None, Ok, Err}
 use Prim.Native.Nat.{ℕ, suc, ◌+◌, ◌-◌, ◌≤◌, ◌<◌}
 use native.Mathlib.Omega.{arith}
 use mathlib.Core.List.{List, [], ◌∷◌}
@@ -9,26 +9,24 @@ use lib.ListN.{length, drop, length-drop}
 use Rattle.basics.proofs.Choice.{chosen}
 use Rattle.jletter.specs.Letter.{semicolon_in, is_base}
 use Rattle.jletter.proofs.Ends.{FoundWithin, semicolon_in_within}
-use Rattle.jtype.specs.OneType.{brackets, unnamed_type, class_type, element, type_in, type_at}
-use Rattle.jtype.specs.declared.Next.{Next}
-use Rattle.jtype.specs.declared.Next.TheVariants.{Is, Close, Refused}
+use Rattle.jtype.specs.OneType.{Next, brackets, unnamed_type, class_type, element, type_in, type_at}
 
 -- a type that was read has a byte, and ends within the text
 abbrev pub NextWithin : ℕ → ℕ → Next → Type 0
-NextWithin at end (Is t next) = (at < next) × (next ≤ end)
-NextWithin at end Close = at < end
-NextWithin at end (Refused r) = Unit {0}
+NextWithin at end (Ok (Some (t, next))) = (at < next) × (next ≤ end)
+NextWithin at end (Ok None) = at < end
+NextWithin at end (Err r) = Unit {0}
 
 next_earlier : (at place end : ℕ) → at ≤ place → (n : Next) → NextWithin place end n → NextWithin at end n
-next_earlier at place end h (Is t next) w = (omega arith, omega arith)
-next_earlier at place end h Close w = omega arith
-next_earlier at place end h (Refused r) w = tt
+next_earlier at place end h (Ok (Some (t, next))) w = (omega arith, omega arith)
+next_earlier at place end h (Ok None) w = omega arith
+next_earlier at place end h (Err r) w = tt
 
 class_within :
     (depth from end : ℕ) (f : Option ℕ) → FoundWithin (from + 1) end f → NextWithin from end (class_type depth (from + 1) f)
 unfolding class_type
 class_within depth from end (Some k) h =
-    chosen (NextWithin from end) (eqb k (from + 1)) (Refused _) (Is _ (k + 1)) tt (omega arith, omega arith)
+    chosen (NextWithin from end) (eqb k (from + 1)) (Err _) (Ok (Some (_, k + 1))) tt (omega arith, omega arith)
 class_within depth from end None h = tt
 
 element_within : (depth : ℕ) (rest : List ℕ) (at end : ℕ) → at + length rest ≤ end → NextWithin at end (element depth rest at)
@@ -39,9 +37,9 @@ element_within depth (x ∷ rest) at end h =
     let step : (at < at + 1) × (at + 1 ≤ end) = (omega arith, omega arith) in
     chosen In (eqb x 76) _ _
     (class_within depth at end (semicolon_in rest (at + 1)) (semicolon_in_within rest (at + 1) end (omega arith)))
-    (chosen In (eqb x 41) _ _ (chosen In (eqb depth 0) Close (Refused _) (omega arith) tt)
-    (chosen In (eqb x 86) _ _ (chosen In (ltb 0 depth) (Refused _) (Is _ (at + 1)) tt step)
-    (chosen In (is_base x) (Is _ (at + 1)) (Refused _) step tt)))
+    (chosen In (eqb x 41) _ _ (chosen In (eqb depth 0) (Ok None) (Err _) (omega arith) tt)
+    (chosen In (eqb x 86) _ _ (chosen In (ltb 0 depth) (Err _) (Ok (Some (_, at + 1))) tt step)
+    (chosen In (is_base x) (Ok (Some (_, at + 1))) (Err _) step tt)))
 
 few_brackets : (rest : List ℕ) → brackets rest ≤ length rest
 unfolding brackets
@@ -51,9 +49,9 @@ few_brackets (x ∷ rest) =
     chosen (λ (n : ℕ). n ≤ suc (length rest)) (eqb x 91) (suc (brackets rest)) 0 (omega arith) (omega arith)
 
 next_in_text : (at size : ℕ) (n : Next) → NextWithin at (at + (size - at)) n → NextWithin at size n
-next_in_text at size (Is t next) w = (omega arith, omega arith)
-next_in_text at size Close w = omega arith
-next_in_text at size (Refused r) w = tt
+next_in_text at size (Ok (Some (t, next))) w = (omega arith, omega arith)
+next_in_text at size (Ok None) w = omega arith
+next_in_text at size (Err r) w = tt
 
 type_in_within : (rest : List ℕ) (at : ℕ) → NextWithin at (at + length rest) (type_in rest at)
 unfolding type_in
@@ -61,7 +59,7 @@ type_in_within rest at =
     let depth = brackets rest in
     let end = at + length rest in
     let behind = element depth (drop depth rest) (at + depth) in
-    chosen (NextWithin at end) (ltb 255 depth) (Refused _) behind tt
+    chosen (NextWithin at end) (ltb 255 depth) (Err _) behind tt
     (next_earlier at (at + depth) end (omega arith) behind
     (element_within depth (drop depth rest) (at + depth) end
     (omega (arith, length-drop depth rest, few_brackets rest))))

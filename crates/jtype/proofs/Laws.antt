@@ -1,5 +1,6 @@
 -- How the definitions of a type go on by one byte, and where a type that was read ends.
 -- Assumes nothing.
+use Rattle.std.specs.Prelude.{None, Ok, Err}
 use Prim.Native.Nat.{ℕ, ◌+◌, ◌-◌, ◌≤◌, ◌<◌}
 use native.Mathlib.Numerals.{add-one}
 use native.Mathlib.Omega.{arith}
@@ -13,7 +14,6 @@ use Rattle.basics.specs.Choice.{pick}
 use Rattle.jtype.specs.OneType.{brackets, unnamed_type, class_type, element, type_in}
 use Rattle.jtype.specs.OneType.{type_at}
 use Rattle.jletter.specs.Letter.{semicolon_from, is_base}
-use Rattle.jtype.specs.declared.Next.TheVariants.{Close, Refused}
 use Rattle.refusal.specs.declared.Refusal.TheVariants.{UnexpectedEnd, TooManyDimensions, CloseAfterBracket, ArrayOfVoid}
 use Rattle.refusal.specs.declared.Refusal.TheVariants.{Unrecognised}
 
@@ -34,7 +34,7 @@ unfolding brackets
 brackets_more text at inside bracket = rw (drop-cons text at 0 inside, bracket, add-one at) (omega arith)
 
 -- what stands behind brackets
-pub element_at_end : (text : List ℕ) (depth at : ℕ) → length text ≤ at → element depth (drop at text) at ≡ Refused UnexpectedEnd
+pub element_at_end : (text : List ℕ) (depth at : ℕ) → length text ≤ at → element depth (drop at text) at ≡ Err UnexpectedEnd
 unfolding element
 element_at_end text depth at past = rw (drop_of_length-le text past)
 
@@ -42,16 +42,16 @@ pub element_next :
     (text : List ℕ) (depth at : ℕ) → at < length text →
     element depth (drop at text) at ≡
     pick (eqb (get_or text at 0) 76) (class_type depth (at + 1) (semicolon_from text (at + 1)))
-    (pick (eqb (get_or text at 0) 41) (pick (eqb depth 0) Close (Refused CloseAfterBracket))
-    (pick (eqb (get_or text at 0) 86) (pick (ltb 0 depth) (Refused ArrayOfVoid) (unnamed_type (get_or text at 0) depth (at + 1)))
-    (pick (is_base (get_or text at 0)) (unnamed_type (get_or text at 0) depth (at + 1)) (Refused Unrecognised))))
+    (pick (eqb (get_or text at 0) 41) (pick (eqb depth 0) (Ok None) (Err CloseAfterBracket))
+    (pick (eqb (get_or text at 0) 86) (pick (ltb 0 depth) (Err ArrayOfVoid) (unnamed_type (get_or text at 0) depth (at + 1)))
+    (pick (is_base (get_or text at 0)) (unnamed_type (get_or text at 0) depth (at + 1)) (Err Unrecognised))))
 unfolding element semicolon_from
 element_next text depth at inside = rw (drop-cons text at 0 inside, add-one at)
 
 -- a type, by the place behind its brackets
 pub type_behind :
     (text : List ℕ) (at place : ℕ) → place ≡ at + brackets (drop at text) →
-    type_at text at ≡ pick (ltb 255 (place - at)) (Refused TooManyDimensions) (element (place - at) (drop place text) place)
+    type_at text at ≡ pick (ltb 255 (place - at)) (Err TooManyDimensions) (element (place - at) (drop place text) place)
 unfolding type_at type_in
 type_behind text at place e =
     let depth : brackets (drop at text) ≡ place - at = omega arith in

@@ -24,15 +24,8 @@ impl TypeRecord {
     pub const VOID: u64 = 86;
 }
 
-// What reading a type at a place finds.
-#[derive(Clone, Copy)]
-pub enum Next {
-    // A type, and the place after it.
-    Is(TypeRecord, usize),
-    // A `)`, which ends the parameters.
-    Close,
-    Refused(Refusal),
-}
+// What reading a type at a place finds: the type and the place after it, or none at a `)`, which ends the parameters.
+pub type Next = Result<Option<(TypeRecord, usize)>, Refusal>;
 
 // The place after the `[` that stand in a row from at on.
 fn after_brackets(text: &[u8], at: usize) -> usize
@@ -54,15 +47,13 @@ fn after_brackets(text: &[u8], at: usize) -> usize
 fn unnamed(letter: u8, depth: usize, next: usize) -> Next
     ensures { result ≡ unnamed_type letter depth next }
 {
-    Next::Is(
-        TypeRecord {
-            letter: letter as u64,
-            dimensions: depth as u64,
-            start: 0,
-            size: 0,
-        },
-        next,
-    )
+    let t = TypeRecord {
+        letter: letter as u64,
+        dimensions: depth as u64,
+        start: 0,
+        size: 0,
+    };
+    Ok(Some((t, next)))
 }
 
 // A class type behind depth brackets, whose name starts at from.
@@ -70,20 +61,18 @@ fn class_type(text: &[u8], depth: usize, from: usize) -> Next
     ensures { result ≡ class_type depth from (semicolon_from text.now from) }
 {
     let Some(end) = semicolon(text, from) else {
-        return Next::Refused(Refusal::MissingSemicolon);
+        return Err(Refusal::MissingSemicolon);
     };
     if end == from {
-        return Next::Refused(Refusal::EmptyClassName);
+        return Err(Refusal::EmptyClassName);
     }
-    Next::Is(
-        TypeRecord {
-            letter: TypeRecord::CLASS,
-            dimensions: depth as u64,
-            start: from as u64,
-            size: (end - from) as u64,
-        },
-        end + 1,
-    )
+    let t = TypeRecord {
+        letter: TypeRecord::CLASS,
+        dimensions: depth as u64,
+        start: from as u64,
+        size: (end - from) as u64,
+    };
+    Ok(Some((t, end + 1)))
 }
 
 // What stands at a place behind depth brackets.
@@ -91,7 +80,7 @@ fn element_at(text: &[u8], depth: usize, at: usize) -> Next
     ensures { result ≡ element depth (drop at text.now) at }
 {
     if text.len() <= at {
-        return Next::Refused(Refusal::UnexpectedEnd);
+        return Err(Refusal::UnexpectedEnd);
     }
     let letter = text[at];
     if letter == b'L' {
@@ -99,20 +88,20 @@ fn element_at(text: &[u8], depth: usize, at: usize) -> Next
     }
     if letter == b')' {
         if depth == 0 {
-            return Next::Close;
+            return Ok(None);
         }
-        return Next::Refused(Refusal::CloseAfterBracket);
+        return Err(Refusal::CloseAfterBracket);
     }
     if letter == b'V' {
         if 0 < depth {
-            return Next::Refused(Refusal::ArrayOfVoid);
+            return Err(Refusal::ArrayOfVoid);
         }
         return unnamed(letter, depth, at + 1);
     }
     if is_base(letter) {
         return unnamed(letter, depth, at + 1);
     }
-    Next::Refused(Refusal::Unrecognised)
+    Err(Refusal::Unrecognised)
 }
 
 // The type at a place.
@@ -122,7 +111,7 @@ pub fn get_next(text: &[u8], at: usize) -> Next
     let place = after_brackets(text, at);
     let depth = place - at;
     if 255 < depth {
-        return Next::Refused(Refusal::TooManyDimensions);
+        return Err(Refusal::TooManyDimensions);
     }
     element_at(text, depth, place)
 }

@@ -2,11 +2,9 @@
 -- refusal that is met from the left.
 -- The bytes: 40 `(`, 86 `V`.
 -- Assumes nothing.
-use Rattle.std.specs.Prelude.{ℕ, zero, suc, ◌+◌, List, [], ◌∷◌, eqb, ltb, length, get_or}
+use Rattle.std.specs.Prelude.{ℕ, zero, suc, ◌+◌, List, [], ◌∷◌, eqb, ltb, length, get_or, Some, None, Ok, Err}
 use Rattle.basics.specs.Choice.{pick}
-use Rattle.jtype.specs.OneType.{type_at}
-use Rattle.jtype.specs.declared.Next.{Next}
-use Rattle.jtype.specs.declared.Next.TheVariants as next
+use Rattle.jtype.specs.OneType.{Next, type_at}
 use Rattle.refusal.specs.declared.Refusal.{Refusal}
 use Rattle.refusal.specs.declared.Refusal.TheVariants.{UnexpectedEnd, LoneClose, TrailingAfterType, MissingOpening}
 use Rattle.refusal.specs.declared.Refusal.TheVariants.{VoidParameter, MissingReturn, TrailingAfterMethod}
@@ -24,9 +22,9 @@ after t (refused r) = refused r
 
 -- one type and then the end of a text of this length; the refusals are those of a `)` and of what trails
 abbrev pub last_type : Refusal → Refusal → ℕ → Next → Reading
-last_type close trailing size (next.Is t end) = pick (ltb end size) (refused trailing) (types (t ∷ []))
-last_type close trailing size next.Close = refused close
-last_type close trailing size (next.Refused r) = refused r
+last_type close trailing size (Ok (Some (t, end))) = pick (ltb end size) (refused trailing) (types (t ∷ []))
+last_type close trailing size (Ok None) = refused close
+last_type close trailing size (Err r) = refused r
 
 -- "3 lone `)` as a type, 4 trailing after a type"
 unfoldable pub type_reading : List ℕ → Reading
@@ -38,9 +36,9 @@ return_at text at = last_type MissingReturn TrailingAfterMethod (length text) (t
 
 -- one parameter and what follows it, or behind a `)` the return: "11 void parameter"
 abbrev pub parameter : Next → (ℕ → Reading) → Reading → Reading
-parameter (next.Is t end) following result = pick (eqb t.letter 86) (refused VoidParameter) (after t (following end))
-parameter next.Close following result = result
-parameter (next.Refused r) following result = refused r
+parameter (Ok (Some (t, end))) following result = pick (eqb t.letter 86) (refused VoidParameter) (after t (following end))
+parameter (Ok None) following result = result
+parameter (Err r) following result = refused r
 
 -- the parameters from a place on, then the return. A type has a byte, so a text of n bytes takes fewer than n turns.
 unfoldable pub parameters_at : ℕ → List ℕ → ℕ → Reading

@@ -1,6 +1,6 @@
 -- What the definitions read where the text is written out: behind brackets, a name up to its semicolon, a whole type.
 -- Assumes nothing.
-use Rattle.std.specs.Prelude.{Some, None}
+use Rattle.std.specs.Prelude.{Some, None, Ok, Err}
 use Prim.Native.Nat.{ℕ, zero, suc, ◌+◌, ◌-◌, ◌≤◌}
 use native.Mathlib.Nat.{add-zero, zero-add}
 use native.Mathlib.Omega.{arith}
@@ -15,7 +15,6 @@ use Rattle.jvms.specs.Descriptor.{FieldType, base, class, array, ReturnType, voi
 use Rattle.jvms.specs.Descriptor.{NoSemicolon, ClassName, Named, WellFormed, WellFormedReturn}
 use Rattle.jletter.specs.Letter.{semicolon_in, is_base}
 use Rattle.jtype.specs.OneType.{brackets, type_record, unnamed_type, class_type, element, type_in}
-use Rattle.jtype.specs.declared.Next.TheVariants.{Is, Close, Refused}
 use Rattle.refusal.specs.declared.Refusal.{Refusal}
 use Rattle.refusal.specs.declared.Refusal.TheVariants.{UnexpectedEnd, TooManyDimensions, EmptyClassName, MissingSemicolon, CloseAfterBracket, ArrayOfVoid, Unrecognised}
 use Rattle.refusal.specs.declared.Refusal.TheVariants.{LoneClose, TrailingAfterType, MissingOpening, VoidParameter, MissingReturn, TrailingAfterMethod, NoRoom}
@@ -93,7 +92,7 @@ not_base x h =
 
 base_element :
     (b : BaseType) (rest : List ℕ) (depth at : ℕ) →
-    element depth (letter b ∷ rest) at ≡ Is (type_record (letter b) depth 0 0) (at + 1)
+    element depth (letter b ∷ rest) at ≡ Ok (Some (type_record (letter b) depth 0 0, at + 1))
 unfolding element is_base unnamed_type
 base_element byte rest depth at = refl
 base_element char rest depth at = refl
@@ -117,7 +116,7 @@ base_stops boolean e = omega arith
 class_element :
     (name rest : List ℕ) (depth at : ℕ) → ClassName name →
     element depth (76 ∷ (name ++ (59 ∷ rest))) at ≡
-    Is (type_record 76 depth (at + 1) (length name)) (at + length (render (class name)))
+    Ok (Some (type_record 76 depth (at + 1) (length name), at + length (render (class name))))
 unfolding element class_type render
 class_element [] rest depth at h = absurd h
 class_element (x ∷ name) rest depth at h =
@@ -134,7 +133,7 @@ one_more_bracket (suc depth) rest = ap (λ (l : List ℕ). 91 ∷ l) (one_more_b
 type_behind :
     (t : FieldType) (rest : List ℕ) (depth at : ℕ) → depth + dimensions t ≤ 255 → Named t →
     type_in (bracketed depth (render t ++ rest)) at ≡
-    Is (type_record (letter_of t) (depth + dimensions t) (name_start (at + depth) t) (name_length t)) (at + depth + length (render t))
+    Ok (Some (type_record (letter_of t) (depth + dimensions t) (name_start (at + depth) t) (name_length t), at + depth + length (render t)))
 unfolding render
 type_behind (base b) rest depth at few named =
     behind depth (letter b ∷ rest) at (omega arith) (base_stops b) ∙ base_element b rest depth (at + depth) ∙ rw add-zero
@@ -151,29 +150,29 @@ type_behind (array t) rest depth at few named =
 
 pub reads_field :
     (t : FieldType) (rest : List ℕ) (at : ℕ) → WellFormed t →
-    type_in (render t ++ rest) at ≡ Is (record_of at t) (at + length (render t))
+    type_in (render t ++ rest) at ≡ Ok (Some (record_of at t, at + length (render t)))
 reads_field t rest at w =
     let shallow = w.shallow in
     type_behind t rest 0 at (omega arith) w.named ∙ rw (zero-add, add-zero)
 
 pub reads_return :
     (t : ReturnType) (rest : List ℕ) (at : ℕ) → WellFormedReturn t →
-    type_in (render_return t ++ rest) at ≡ Is (return_record at t) (at + length (render_return t))
+    type_in (render_return t ++ rest) at ≡ Ok (Some (return_record at t, at + length (render_return t)))
 unfolding render_return type_in brackets element unnamed_type
 reads_return void rest at w = rw add-zero
 reads_return (typed t) rest at w = reads_field t rest at w
 
-pub reads_close : (rest : List ℕ) (at : ℕ) → type_in (41 ∷ rest) at ≡ Close
+pub reads_close : (rest : List ℕ) (at : ℕ) → type_in (41 ∷ rest) at ≡ Ok None
 unfolding type_in brackets element
 reads_close rest at = refl
 
 -- ---- a wrong type
 
-too_deep : (more : List ℕ) (at : ℕ) → type_in (bracketed 256 more) at ≡ Refused TooManyDimensions
+too_deep : (more : List ℕ) (at : ℕ) → type_in (bracketed 256 more) at ≡ Err TooManyDimensions
 unfolding type_in
 too_deep more at = rw (lt-ltb 255 (brackets (bracketed 256 more)) (omega (arith, brackets_of 256 more)))
 
-pub reads_wrong : (rest : List ℕ) (at : ℕ) (r : Refusal) → WrongType rest r → type_in rest at ≡ Refused r
+pub reads_wrong : (rest : List ℕ) (at : ℕ) (r : Refusal) → WrongType rest r → type_in rest at ≡ Err r
 unfolding element class_type
 reads_wrong rest at UnexpectedEnd (ended depth few e) =
     ap (λ (l : List ℕ). type_in l at) e ∙ behind depth [] at few tt

@@ -1,6 +1,7 @@
 -- What the readers answer means what it says, and nothing else does: every text has one of the declared forms, and a text of
 -- such a form is read so.
 -- Assumes nothing.
+use Rattle.std.specs.Prelude.{Ok, Err}
 use Prim.Native.Nat.{ℕ, zero, suc, ◌*◌, ◌<◌}
 use native.Mathlib.Omega.{arith}
 use mathlib.Core.Path.{◌≡◌, refl, ◌∙◌, sym, ap, subst}
@@ -20,10 +21,9 @@ use Rattle.refusal.specs.Refusal.{number_of}
 use Rattle.refusal.specs.declared.Refusal.{Refusal}
 use Rattle.refusal.specs.declared.Refusal.TheVariants.{LoneClose, TrailingAfterType, MissingOpening, VoidParameter}
 use Rattle.refusal.specs.declared.Refusal.TheVariants.{MissingReturn, TrailingAfterMethod, NoRoom}
+use Rattle.judging.specs.Judged.{Answer}
 use Rattle.judging.specs.Reading.{Reading, types, refused, type_reading, method_reading}
 use Rattle.jdescriptor.specs.Answer.{numbers_of, answer, written, IsTypes}
-use Rattle.judging.specs.declared.Answer.{Answer}
-use Rattle.judging.specs.declared.Answer.TheVariants.{Types, Refused}
 use Rattle.strict.specs.Declared.{wrong_type, lone, type_trails, unopened, wrong_parameter}
 use Rattle.strict.specs.Declared.{void_parameter, wrong_return, second_close, method_trails, TypeMeans, MethodMeans}
 use Rattle.strict.specs.Declared.{Outcome, fits, too_small, refuses, Declared, MethodDeclared, TypeDeclared}
@@ -130,7 +130,7 @@ module _ (Means : List ℕ → Reading → Type 0) (reading : List ℕ → Readi
     where
       by :
           (b : Bool) → ltb (length buffer) (4 * length ts) ≡ b →
-          Outcome M buffer (pick b (Refused NoRoom) (Types (length ts))) (pick b buffer (overlaid 0 (numbers_of ts) buffer))
+          Outcome M buffer (pick b (Err NoRoom) (Ok (length ts))) (pick b buffer (overlaid 0 (numbers_of ts) buffer))
       by true e = too_small ts m (ltb-true (length buffer) (4 * length ts) e)
       by false e = fits ts m (ltb-false (length buffer) (4 * length ts) e)
   outcome M buffer (refused r) m = refuses r m

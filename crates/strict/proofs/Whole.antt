@@ -1,6 +1,7 @@
 -- What the definitions read of a whole text that is written out: parameters that are well formed are gone over, and what
 -- stands behind them decides.
 -- Assumes nothing.
+use Rattle.std.specs.Prelude.{Some, None, Ok, Err}
 use Prim.Native.Nat.{ℕ, suc, ◌+◌, ◌-◌, ◌≤◌, ◌<◌}
 use native.Mathlib.Nat.{add-zero, zero-add}
 use native.Mathlib.Omega.{arith}
@@ -15,9 +16,7 @@ use Rattle.jvms.specs.Descriptor.{BaseType, byte, char, double, float, int, long
 use Rattle.jvms.specs.Descriptor.{FieldType, base, class, array, ReturnType, void, typed, MethodType}
 use Rattle.jvms.specs.Descriptor.{render, render_return, render_all, render_method}
 use Rattle.jvms.specs.Descriptor.{AllWellFormed, WellFormedReturn, WellFormedMethod}
-use Rattle.jtype.specs.OneType.{type_in, type_at}
-use Rattle.jtype.specs.declared.Next.{Next}
-use Rattle.jtype.specs.declared.Next.TheVariants.{Is, Close, Refused}
+use Rattle.jtype.specs.OneType.{Next, type_in, type_at}
 use Rattle.refusal.specs.declared.Refusal.{Refusal}
 use Rattle.refusal.specs.declared.Refusal.TheVariants.{LoneClose, TrailingAfterType, MissingOpening, VoidParameter}
 use Rattle.refusal.specs.declared.Refusal.TheVariants.{MissingReturn, TrailingAfterMethod}
@@ -163,14 +162,14 @@ module _ (ts : List FieldType) (all : AllWellFormed ts) (rest : List ℕ) where
       (ap (λ (l : List ℕ). type_in l behind_all) rest_behind ∙ e)
 
   pub wrong-parameter : (r : Refusal) → WrongType rest r → method_reading opened ≡ refused r
-  wrong-parameter r w = reading (Refused r) (reads_wrong rest behind_all r w)
+  wrong-parameter r w = reading (Err r) (reads_wrong rest behind_all r w)
 
 module _ (ts : List FieldType) (all : AllWellFormed ts) (more : List ℕ) where
   pub void-parameter : method_reading (40 ∷ (render_all ts ++ (86 ∷ more))) ≡ refused VoidParameter
   unfolding render_return
   void-parameter =
       let place = 1 + length (render_all ts) in
-      reading ts all (86 ∷ more) (Is (return_record place void) (place + 1)) (reads_return void more place tt)
+      reading ts all (86 ∷ more) (Ok (Some (return_record place void, place + 1))) (reads_return void more place tt)
 
   abbrev closed_text : List ℕ
   closed_text = 40 ∷ (render_all ts ++ (41 ∷ more))
@@ -186,7 +185,7 @@ module _ (ts : List FieldType) (all : AllWellFormed ts) (more : List ℕ) where
       method_reading closed_text ≡ after_all (records_at 1 ts) R
   unfolding return_at
   at_return R e =
-      reading ts all (41 ∷ more) Close (reads_close more (1 + length (render_all ts))) ∙ ap (after_all (records_at 1 ts)) e
+      reading ts all (41 ∷ more) (Ok None) (reads_close more (1 + length (render_all ts))) ∙ ap (after_all (records_at 1 ts)) e
 
 -- ---- whole texts
 

@@ -3,7 +3,7 @@
 -- The statements at the end are proved in proofs/ of this crate.
 -- The bytes: 40 `(`, 41 `)`, 59 `;`, 76 `L`, 86 `V`, 91 `[`.
 -- Assumes nothing.
-use Rattle.std.specs.Prelude.{ℕ, ◌*◌, ◌≤◌, ◌<◌, ◌≡◌, List, [], ◌∷◌, ◌++◌, ◌⊎◌, length, replicate}
+use Rattle.std.specs.Prelude.{ℕ, ◌*◌, ◌≤◌, ◌<◌, ◌≡◌, List, [], ◌∷◌, ◌++◌, ◌⊎◌, length, replicate, Ok, Err}
 use Rattle.basics.specs.Parts.{overlaid}
 use Rattle.jvms.specs.Descriptor.{BaseType, FieldType, ReturnType, MethodType}
 use Rattle.jvms.specs.Descriptor.{letter, render, render_all, render_return, render_method}
@@ -15,10 +15,9 @@ use Rattle.refusal.specs.declared.Refusal.TheVariants.{EmptyClassName, MissingSe
 use Rattle.refusal.specs.declared.Refusal.TheVariants.{Unrecognised, MissingOpening, VoidParameter, MissingReturn}
 use Rattle.refusal.specs.declared.Refusal.TheVariants.{TrailingAfterMethod, NoRoom}
 use Rattle.jtype.specs.declared.TypeRecord.{TypeRecord}
+use Rattle.judging.specs.Judged.{Answer}
 use Rattle.judging.specs.Reading.{Reading, types, refused, type_reading, method_reading}
 use Rattle.jdescriptor.specs.Answer.{numbers_of, answer, written, IsTypes}
-use Rattle.judging.specs.declared.Answer.{Answer}
-use Rattle.judging.specs.declared.Answer.TheVariants.{Types, Refused}
 use Rattle.strict.specs.Records.{method_records, return_record, spelled, spelled_method}
 
 -- ---- what is wrong where a type is due
@@ -128,10 +127,10 @@ TypeMeans text (refused r) = WrongAlone text r
 pub data Outcome (Means : Reading → Type 0) (buffer : List ℕ) : Answer → List ℕ → Type 0 where
   fits :
       (ts : List TypeRecord) → Means (types ts) → 4 * length ts ≤ length buffer →
-      Outcome Means buffer (Types (length ts)) (overlaid 0 (numbers_of ts) buffer)
+      Outcome Means buffer (Ok (length ts)) (overlaid 0 (numbers_of ts) buffer)
   too_small :
-      (ts : List TypeRecord) → Means (types ts) → length buffer < 4 * length ts → Outcome Means buffer (Refused NoRoom) buffer
-  refuses : (r : Refusal) → Means (refused r) → Outcome Means buffer (Refused r) buffer
+      (ts : List TypeRecord) → Means (types ts) → length buffer < 4 * length ts → Outcome Means buffer (Err NoRoom) buffer
+  refuses : (r : Refusal) → Means (refused r) → Outcome Means buffer (Err r) buffer
 
 -- ---- the statements
 

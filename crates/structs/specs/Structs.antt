@@ -10,8 +10,7 @@ use Rattle.bytecode.specs.Length.{numbered as length_numbered}
 use Rattle.bytecode.specs.declared.Measure.{Measure}
 use Rattle.casefile.specs.Whole.{numbered as case_numbered}
 use Rattle.casefile.specs.declared.Case.{Case}
-use Rattle.judging.specs.Judged.{numbered as strict_numbered}
-use Rattle.judging.specs.declared.Answer.{Answer}
+use Rattle.judging.specs.Judged.{Answer, numbered as strict_numbered}
 use Rattle.leader.specs.Scan.{numbered as leader_numbered}
 use Rattle.leader.specs.declared.Scan.{Scan}
 use Rattle.descriptor.specs.declared.Slots.{Slots}

@@ -7,8 +7,8 @@ ghost use Rattle.structs.specs.Structs.{low, report_numbers, length_numbers, lea
 use answer::Report;
 use bytecode::Measure;
 use descriptor::Slots;
-use judging::Answer;
 use leader::Scan;
+use refusal::Refusal;
 use walk::Walk;
 
 // The report of a case.
@@ -212,15 +212,15 @@ pub fn walk_numbers(walk: Walk) -> KorsepalWalk
 }
 
 // The numbers of a strict reader's answer.
-pub fn strict_numbers(answer: Answer) -> KorsepalTypes
+pub fn strict_numbers(answer: Result<usize, Refusal>) -> KorsepalTypes
     ensures { result ≡ strict_numbers answer }
 {
     match answer {
-        Answer::Types(count) => KorsepalTypes {
+        Ok(count) => KorsepalTypes {
             refusal: 0,
             count: count as u64,
         },
-        Answer::Refused(refusal) => KorsepalTypes {
+        Err(refusal) => KorsepalTypes {
             refusal: low_bits(refusal::number_of(refusal) as usize),
             count: 0,
         },

@@ -1,14 +1,14 @@
 // Rows on the strict readers.
 use crate::{Told, nothing, told, told_with};
 use items::part_at;
-use judging::Answer;
 use notation::first_numbers;
+use refusal::Refusal;
 use text::{put_at, put_decimal_at, sum};
 
 const LETTERS: [u8; 8] = *b"()[;ILVa";
 
 // The reader of a method, or of a type.
-fn parse(method: bool, text: &[u8], numbers: &mut [u64]) -> Answer {
+fn parse(method: bool, text: &[u8], numbers: &mut [u64]) -> Result<usize, Refusal> {
     if method {
         return jdescriptor::parse_method(text, numbers);
     }
@@ -32,8 +32,8 @@ fn parsed(out: &mut [u8], method: bool, text: &[u8], numbers: &mut [u64]) -> Tol
     let answer = parse(method, text, numbers);
     let end = put_numbers(out, numbers);
     match answer {
-        Answer::Types(count) => told_with(end, 0, count, 0, 0),
-        Answer::Refused(r) => told_with(end, 1, refusal::number_of(r) as usize, 0, 0),
+        Ok(count) => told_with(end, 0, count, 0, 0),
+        Err(r) => told_with(end, 1, refusal::number_of(r) as usize, 0, 0),
     }
 }
 
@@ -48,10 +48,10 @@ fn text(out: &mut [u8], method: bool, text: &[u8], room: usize) -> Told {
 }
 
 // An answer as one number: the refusal's, or 15 and the count of types.
-fn number_of(answer: Answer) -> u64 {
+fn number_of(answer: Result<usize, Refusal>) -> u64 {
     match answer {
-        Answer::Types(count) => 15 + count as u64 % 1000,
-        Answer::Refused(r) => refusal::number_of(r),
+        Ok(count) => 15 + count as u64 % 1000,
+        Err(r) => refusal::number_of(r),
     }
 }
 

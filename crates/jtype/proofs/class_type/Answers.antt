@@ -15,8 +15,8 @@ pub returns-then-end-from : goal.returns-then-end-from
 unfolding class_type
 returns-then-end-from c = rw (sym c.semicolon.ensures ∙ c.in-Some.is, eq-eqb _ _ c.if-end-from.true)
 
-pub overflow_sub-result : goal.overflow_sub-result
-overflow_sub-result c =
+pub overflow_sub-t : goal.overflow_sub-t
+overflow_sub-t c =
     let a = c.args in
     let found = sym c.semicolon.ensures ∙ c.in-Some.is in
     omega (arith, rw found at (semicolon_within a.text.now a.from))

@@ -3,10 +3,10 @@
 use Rattle.judging.specs.Judged.{numbered}
 use Rattle.structs.proofs.strict_numbers.Goals as goal
 
-pub returns-in-Types : goal.returns-in-Types
+pub returns-in-Ok : goal.returns-in-Ok
 unfolding numbered
-returns-in-Types c = rw c.in-Types.is
+returns-in-Ok c = rw c.in-Ok.is
 
-pub returns-in-Refused : goal.returns-in-Refused
+pub returns-in-Err : goal.returns-in-Err
 unfolding numbered
-returns-in-Refused c = rw (c.in-Refused.is, c.low_bits.ensures, c.number_of.ensures)
+returns-in-Err c = rw (c.in-Err.is, c.low_bits.ensures, c.number_of.ensures)
