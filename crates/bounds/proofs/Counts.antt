@@ -1,7 +1,7 @@
 -- A code of n bytes has at most n instructions, and a walk to a fault completes at most as many as the fault's index. So the counts
 -- of a case are small.
 -- Assumes nothing.
-use Rattle.std.specs.Prelude.{Option, None, Some}
+use Rattle.std.specs.Prelude.{Option, None, Some, Result, Ok, Err}
 use Prim.Native.Nat.{ℕ, zero, suc, ◌+◌, ◌-◌, ◌≤◌}
 use native.Mathlib.Omega.{arith}
 use mathlib.Core.Path.{◌≡◌, refl}
@@ -11,12 +11,11 @@ use lib.ListN.{length}
 use Rattle.cell.specs.declared.Load.{Load}
 use Rattle.basics.proofs.Choice.{chosen}
 use Rattle.bytecode.specs.Length.{length_of}
-use Rattle.bytecode.specs.declared.Measure.{Measure}
+use Rattle.bytecode.specs.declared.Unmeasured.{Unmeasured}
 use Rattle.greatest.specs.Greatest.{greatest as greatest_of}
 use Rattle.leader.specs.Scan.{Instructions, ended as scan_ended, unmeasured, instruction, scan_from, instructions, scan_count, leaders_of, answered, block_leader}
-use Rattle.leader.specs.declared.Scan.{Scan}
-use Rattle.leader.specs.declared.Scan.TheVariants.{Leader, Unmeasured}
 use Rattle.leader.proofs.Scanning.{Turn, at_end, without, with_length, turn}
+use Rattle.leader.specs.declared.Scanned.{Scanned}
 use Rattle.number.specs.Number.{greatest}
 use Rattle.casefile.specs.Parts.{Parts, parts_of}
 use Rattle.casefile.specs.Whole.{case_of}
@@ -43,7 +42,7 @@ use Rattle.bounds.specs.Counts.{Small, CountsSmall}
 
 -- ---- the scan
 
-scan_within : (measure : List ℕ → ℕ → Measure) (code : List ℕ) (k pc : ℕ) → scan_count (scan_from measure code k pc) ≤ k
+scan_within : (measure : List ℕ → ℕ → Result ℕ Unmeasured) (code : List ℕ) (k pc : ℕ) → scan_count (scan_from measure code k pc) ≤ k
 unfolding scan_from scan_count
 scan_within measure code zero pc = omega arith
 scan_within measure code (suc k) pc = by_turn (turn measure code pc k) (λ at. scan_within measure code k at)
@@ -55,9 +54,9 @@ scan_within measure code (suc k) pc = by_turn (turn measure code pc k) (λ at. s
     by_turn (without inside none) rest = omega arith
     by_turn (with_length {n = n} inside measured) rest = omega (arith, rest (pc + n))
 
-abbrev count_of : Scan → ℕ
-count_of (Leader at count) = count
-count_of (Unmeasured at count) = count
+abbrev count_of : Result Scanned Scanned → ℕ
+count_of (Ok s) = s.count
+count_of (Err s) = s.count
 
 count_kept : (i : Instructions) (leader count : ℕ) → count_of (answered i leader count) ≡ count
 unfolding answered
@@ -146,14 +145,14 @@ module _ (manner : Manner) (p : Parts) (laid : LaidOut p) (room : ℕ) where
   traced_small depth = by_scan (scan_of p) (scanned p.code p.fault)
     where
       by_scan :
-          (s : Scan) → count_of s ≤ length p.code →
+          (s : Result Scanned Scanned) → count_of s ≤ length p.code →
           SmallTrace (traced_by manner.model p.code p.members p.member_count p.fault depth room s)
-      by_scan (Leader leader scan) few =
-          small_trace scan depth p.fault
-          (block_walk_in manner.model p.code p.members p.member_count leader p.fault room)
+      by_scan (Ok s) few =
+          small_trace s.count depth p.fault
+          (block_walk_in manner.model p.code p.members p.member_count s.at p.fault room)
           (omega (arith, laid.code)) laid.fault
-          (walked_within manner.model p.code p.members p.member_count leader p.fault room)
-      by_scan (Unmeasured at scan) few = (omega (arith, laid.code), lit≤ tt)
+          (walked_within manner.model p.code p.members p.member_count s.at p.fault room)
+      by_scan (Err s) few = (omega (arith, laid.code), lit≤ tt)
 
   said_small : SmallSaid (said_in manner p room)
   unfolding said_in

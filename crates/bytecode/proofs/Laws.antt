@@ -1,5 +1,6 @@
 -- The laws of a length, for document 01's rule and for any other, and that an answer is told by its numbers.
 -- Assumes nothing.
+use Rattle.std.specs.Prelude.{Result, Ok, Err}
 use Prim.Native.Nat.{ℕ, ◌+◌, ◌≤◌, ◌<◌}
 use native.Mathlib.Omega.{arith}
 use mathlib.Core.Path.{◌≡◌, refl, ◌∙◌, sym, ap}
@@ -16,20 +17,20 @@ use Rattle.bytecode.specs.Length.{table_bytes, lookup_bytes, wide_bytes, bytes_b
 use Rattle.fixed.specs.Fixed.{fixed_by, fixed_length, FixedLengths}
 use Rattle.bytecode.specs.Length.{length_by}
 use Rattle.bytecode.specs.Rule.{LengthRule}
-use Rattle.bytecode.specs.declared.Measure.{Measure}
-use Rattle.bytecode.specs.declared.Measure.TheVariants.{Length, NoLength, Reserved}
+use Rattle.bytecode.specs.declared.Unmeasured.{Unmeasured}
+use Rattle.bytecode.specs.declared.Unmeasured.TheVariants.{NoLength, Reserved}
 
 -- a length that is given is the rule's, and stays in the code
 pub record Given (code : List ℕ) (pc n : ℕ) : Type 0 where
   pub bytes : n ≡ bytes_of code pc
   pub inside : pc + n ≤ length code
 
-pub given : (code : List ℕ) (pc n : ℕ) → document_length code pc ≡ Length n → Given code pc n
+pub given : (code : List ℕ) (pc n : ℕ) → document_length code pc ≡ Ok n → Given code pc n
 unfolding document_length within
 given code pc n e = by_test (leb (pc + bytes_of code pc) (length code)) refl e
   where
     by_test :
-        (t : Bool) → leb (pc + bytes_of code pc) (length code) ≡ t → pick t (Length (bytes_of code pc)) NoLength ≡ Length n →
+        (t : Bool) → leb (pc + bytes_of code pc) (length code) ≡ t → pick t (Ok (bytes_of code pc)) (Err NoLength) ≡ Ok n →
         Given code pc n
     by_test true h q =
         let same : n ≡ bytes_of code pc = cc in
@@ -60,8 +61,8 @@ by_fixed_lengths lengths code pc table below =
     rw (table.entries (byte_at code pc) below, ← reserved_from_202 (byte_at code pc) below)
     (by_format (format_of (byte_at code pc)))
   where
-    by_rule : Format → Measure
-    by_rule f = pick (is_reserved f) Reserved (within code pc (bytes_by f code pc))
+    by_rule : Format → Result ℕ Unmeasured
+    by_rule f = pick (is_reserved f) (Err Reserved) (within code pc (bytes_by f code pc))
 
     by_format : (f : Format) → pick (eqb (fixed_by f) 0) (by_rule f) (within code pc (fixed_by f)) ≡ by_rule f
     by_format (fixed os) = rw (ne_eqb (1 + widths os) 0 (omega arith))
@@ -71,30 +72,30 @@ by_fixed_lengths lengths code pc table below =
     by_format reserved = refl
 
 -- by any rule a length is at least 1
-pub rule_positive : (rule : LengthRule) (code : List ℕ) (pc n : ℕ) → rule.measure code pc ≡ Length n → 1 ≤ n
+pub rule_positive : (rule : LengthRule) (code : List ℕ) (pc n : ℕ) → rule.measure code pc ≡ Ok n → 1 ≤ n
 rule_positive rule code pc n e =
     omega (arith, bytes_positive code pc, (given code pc n (rule.documented code pc n e)).bytes)
 
 -- and passes no end
-pub rule_inside : (rule : LengthRule) (code : List ℕ) (pc n : ℕ) → rule.measure code pc ≡ Length n → pc + n ≤ length code
+pub rule_inside : (rule : LengthRule) (code : List ℕ) (pc n : ℕ) → rule.measure code pc ≡ Ok n → pc + n ≤ length code
 rule_inside rule code pc n e = (given code pc n (rule.documented code pc n e)).inside
 
 -- measured implies in bounds: by any rule, each byte of an instruction that has a length lies in the code
 pub measured_in_bounds :
-    (rule : LengthRule) (code : List ℕ) (pc n : ℕ) → rule.measure code pc ≡ Length n →
+    (rule : LengthRule) (code : List ℕ) (pc n : ℕ) → rule.measure code pc ≡ Ok n →
     (k : ℕ) → k < bytes_of code pc → pc + k < length code
 measured_in_bounds rule code pc n e k below =
     omega (arith, (given code pc n (rule.documented code pc n e)).bytes, rule_inside rule code pc n e)
 
 -- two answers with the same numbers are the same: the numbers are read back
-abbrev answered : List ℕ → Measure
-answered l = pick (eqb (get_or l 0 0) 0) (Length (get_or l 1 0)) (pick (eqb (get_or l 0 0) 1) NoLength Reserved)
+abbrev answered : List ℕ → Result ℕ Unmeasured
+answered l = pick (eqb (get_or l 0 0) 0) (Ok (get_or l 1 0)) (pick (eqb (get_or l 0 0) 1) (Err NoLength) (Err Reserved))
 
-back : (answer : Measure) → answered (numbered answer) ≡ answer
+back : (answer : Result ℕ Unmeasured) → answered (numbered answer) ≡ answer
 unfolding numbered
-back (Length n) = refl
-back NoLength = refl
-back Reserved = refl
+back (Ok n) = refl
+back (Err NoLength) = refl
+back (Err Reserved) = refl
 
-pub numbered_injective : (one another : Measure) → numbered one ≡ numbered another → one ≡ another
+pub numbered_injective : (one another : Result ℕ Unmeasured) → numbered one ≡ numbered another → one ≡ another
 numbered_injective one another e = sym (back one) ∙ ap answered e ∙ back another

@@ -1,6 +1,7 @@
 -- What the code's own proofs need of the length rule: the opcodes that fix the length, the reserved ones, and the answers at the
 -- code's end.
 -- Assumes nothing.
+use Rattle.std.specs.Prelude.{Ok, Err}
 use Prim.Native.Nat.{ℕ, zero, suc, ◌+◌, ◌≤◌, ◌<◌}
 use native.Mathlib.Omega.{arith}
 use mathlib.Core.Path.{◌≡◌, refl, ◌∙◌, sym}
@@ -14,8 +15,8 @@ use Rattle.basics.proofs.Bytes.{byte_past}
 use Rattle.basics.proofs.Every.{every_at}
 use Rattle.jvms.specs.Format.{Format, fixed, tableswitch, lookupswitch, wide, reserved, format_of}
 use Rattle.bytecode.specs.Length.{bytes_by, bytes_of, within, document_length, reserved_byte, length_of, length_by}
+use Rattle.bytecode.specs.declared.Unmeasured.TheVariants.{NoLength, Reserved}
 use Rattle.fixed.specs.Fixed.{fixed_by, fixed_length}
-use Rattle.bytecode.specs.declared.Measure.TheVariants.{Length, NoLength, Reserved}
 
 -- an opcode whose format leaves its length open is one of three, or reserved
 abbrev opens : Format → ℕ → Bool
@@ -49,7 +50,7 @@ opcode_fixes code pc below =
 
 -- ---- reserved, and not
 
-pub is-reserved : (code : List ℕ) (pc : ℕ) → 202 ≤ byte_at code pc → Reserved ≡ length_of code pc
+pub is-reserved : (code : List ℕ) (pc : ℕ) → 202 ≤ byte_at code pc → Err Reserved ≡ length_of code pc
 unfolding length_of
 is-reserved code pc high = simp (le-leb _ _ high)
 
@@ -59,16 +60,16 @@ not_reserved code pc low = simp (lt-leb _ _ low)
 
 -- ---- the code's end
 
-pub fits : (code : List ℕ) (pc n : ℕ) → pc + n ≤ length code → Length n ≡ within code pc n
+pub fits : (code : List ℕ) (pc n : ℕ) → pc + n ≤ length code → Ok n ≡ within code pc n
 unfolding within
 fits code pc n inside = simp (le-leb _ _ inside)
 
-pub passes : (code : List ℕ) (pc n : ℕ) → length code < pc + n → NoLength ≡ within code pc n
+pub passes : (code : List ℕ) (pc n : ℕ) → length code < pc + n → Err NoLength ≡ within code pc n
 unfolding within
 passes code pc n past = simp (lt-leb _ _ past)
 
 -- past the end there is no instruction
-pub none_past : (code : List ℕ) (pc : ℕ) → length code ≤ pc → NoLength ≡ length_of code pc
+pub none_past : (code : List ℕ) (pc : ℕ) → length code ≤ pc → Err NoLength ≡ length_of code pc
 unfolding length_of document_length bytes_of format_of
 none_past code pc past = rw (byte_past code pc past) (passes code pc 1 (omega arith))
 

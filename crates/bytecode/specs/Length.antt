@@ -2,14 +2,14 @@
 -- reserved byte has none (document 02, request 6).
 -- "These are whole numbers that never wrap."
 -- Assumes nothing.
-use Rattle.std.specs.Prelude.{ℕ, ◌+◌, ◌-◌, ◌*◌, ◌/◌, ◌^◌, Bool, List, [], ◌∷◌, eqb, leb, length}
+use Rattle.std.specs.Prelude.{ℕ, ◌+◌, ◌-◌, ◌*◌, ◌/◌, ◌^◌, Bool, List, [], ◌∷◌, eqb, leb, length, Result, Ok, Err}
 use Rattle.basics.specs.Bytes.{byte_at}
 use Rattle.basics.specs.Choice.{pick}
 use Rattle.jvms.specs.Format.{Format, fixed, tableswitch, lookupswitch, wide, reserved, widths, format_of}
 use Rattle.reads.specs.Signed.{i32_at}
 use Rattle.fixed.specs.Fixed.{wide_by}
-use Rattle.bytecode.specs.declared.Measure.{Measure}
-use Rattle.bytecode.specs.declared.Measure.TheVariants.{Length, NoLength, Reserved}
+use Rattle.bytecode.specs.declared.Unmeasured.{Unmeasured}
+use Rattle.bytecode.specs.declared.Unmeasured.TheVariants.{NoLength, Reserved}
 
 -- the first multiple of 4 from an index on
 abbrev pub aligned : ℕ → ℕ
@@ -52,11 +52,11 @@ unfoldable pub bytes_of : List ℕ → ℕ → ℕ
 bytes_of code pc = bytes_by (format_of (byte_at code pc)) code pc
 
 -- "An instruction that would pass the end has no length."
-unfoldable pub within : List ℕ → ℕ → ℕ → Measure
-within code pc n = pick (leb (pc + n) (length code)) (Length n) NoLength
+unfoldable pub within : List ℕ → ℕ → ℕ → Result ℕ Unmeasured
+within code pc n = pick (leb (pc + n) (length code)) (Ok n) (Err NoLength)
 
 -- document 01's length of the instruction at pc
-unfoldable pub document_length : List ℕ → ℕ → Measure
+unfoldable pub document_length : List ℕ → ℕ → Result ℕ Unmeasured
 document_length code pc = within code pc (bytes_of code pc)
 
 -- "202 to 255"
@@ -65,17 +65,17 @@ reserved_byte op = leb 202 op
 
 -- "The length of 202 to 255 shall be none, with an answer that tells a reserved byte from a cut instruction." Past the end there is no
 -- byte, so none that is reserved.
-unfoldable pub length_of : List ℕ → ℕ → Measure
-length_of code pc = pick (reserved_byte (byte_at code pc)) Reserved (document_length code pc)
+unfoldable pub length_of : List ℕ → ℕ → Result ℕ Unmeasured
+length_of code pc = pick (reserved_byte (byte_at code pc)) (Err Reserved) (document_length code pc)
 
 -- the length by a table: what its entry for the opcode fixes, and where the entry is 0 `length_of`
-unfoldable pub length_by : List ℕ → List ℕ → ℕ → Measure
+unfoldable pub length_by : List ℕ → List ℕ → ℕ → Result ℕ Unmeasured
 length_by lengths code pc =
     let n = byte_at lengths (byte_at code pc) in
     pick (eqb n 0) (length_of code pc) (within code pc n)
 
 -- an answer as numbers: 0 and the length, 1 for a cut instruction, 2 for a reserved byte
-unfoldable pub numbered : Measure → List ℕ
-numbered (Length n) = 0 ∷ n ∷ []
-numbered NoLength = 1 ∷ []
-numbered Reserved = 2 ∷ []
+unfoldable pub numbered : Result ℕ Unmeasured → List ℕ
+numbered (Ok n) = 0 ∷ n ∷ []
+numbered (Err NoLength) = 1 ∷ []
+numbered (Err Reserved) = 2 ∷ []

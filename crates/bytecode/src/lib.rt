@@ -11,11 +11,9 @@ use fixed::{fixed_by, fixed_length, wide_by};
 use opcode::Opcode;
 use reads::{byte_at, read_i32};
 
-// What measuring an instruction answers.
+// Why an instruction has no length.
 #[derive(Clone, Copy)]
-pub enum Measure {
-    // Its bytes, the opcode among them.
-    Length(usize),
+pub enum Unmeasured {
     // There is no byte at the index, or the instruction would pass the end of the code.
     NoLength,
     // The byte is reserved, 202 to 255: no instruction has it as its opcode.
@@ -44,13 +42,6 @@ fn wide_bytes(code: &[u8], pc: usize) -> usize
     wide_by(byte_at(code, pc + 1)) as usize
 }
 
-// The difference of two numbers, none where it is negative.
-fn minus(a: usize, b: usize) -> usize
-    ensures { result ≡ a - b }
-{
-    if b <= a { a - b } else { 0 }
-}
-
 fn table_bytes(code: &[u8], pc: usize) -> usize
     requires { pc < length code.now }
     ensures { result ≡ table_bytes code.now pc }
@@ -58,7 +49,7 @@ fn table_bytes(code: &[u8], pc: usize) -> usize
     let at = operands_at(pc);
     let low = read_i32(code, at + 4);
     let high = read_i32(code, at + 8);
-    at - pc + 12 + 4 * minus(high + 1, low)
+    at - pc + 12 + 4 * (high + 1).saturating_sub(low)
 }
 
 fn lookup_bytes(code: &[u8], pc: usize) -> usize
@@ -67,7 +58,7 @@ fn lookup_bytes(code: &[u8], pc: usize) -> usize
 {
     let at = operands_at(pc);
     let count = read_i32(code, at + 4);
-    at - pc + 8 + 8 * minus(count, 0x8000_0000)
+    at - pc + 8 + 8 * count.saturating_sub(0x8000_0000)
 }
 
 // The bytes of the instruction at pc, whose opcode is not reserved, also where they pass the end.
@@ -85,33 +76,33 @@ fn bytes_of(code: &[u8], pc: usize) -> usize
 }
 
 // A length of so many bytes from pc on, or none where they pass the end.
-fn within(code: &[u8], pc: usize, bytes: usize) -> Measure
+fn within(code: &[u8], pc: usize, bytes: usize) -> Result<usize, Unmeasured>
     requires { pc < length code.now }
     ensures { result ≡ within code.now pc bytes }
 {
     if bytes <= code.len() - pc {
-        Measure::Length(bytes)
+        Ok(bytes)
     } else {
-        Measure::NoLength
+        Err(Unmeasured::NoLength)
     }
 }
 
-// The length of the instruction at pc.
-pub fn instruction_length(code: &[u8], pc: usize) -> Measure
+// The length of the instruction at pc: its bytes, the opcode among them.
+pub fn instruction_length(code: &[u8], pc: usize) -> Result<usize, Unmeasured>
     ensures { result ≡ length_of code.now pc }
 {
     if code.len() <= pc {
-        return Measure::NoLength;
+        return Err(Unmeasured::NoLength);
     }
     if Opcode::BREAKPOINT <= code[pc] {
-        return Measure::Reserved;
+        return Err(Unmeasured::Reserved);
     }
     let bytes = bytes_of(code, pc);
     within(code, pc, bytes)
 }
 
 // The same by a lent table, where it fixes the length.
-pub fn length_by(lengths: &[u8; 256], code: &[u8], pc: usize) -> Measure
+pub fn length_by(lengths: &[u8; 256], code: &[u8], pc: usize) -> Result<usize, Unmeasured>
     ensures { result ≡ length_by lengths.now code.now pc }
 {
     if pc < code.len() {

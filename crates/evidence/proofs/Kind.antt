@@ -1,6 +1,6 @@
 -- The kind of a message is 2 exactly where a cause is given, and else 1.
 -- Assumes nothing.
-use Rattle.std.specs.Prelude.{Option, None, Some}
+use Rattle.std.specs.Prelude.{Option, None, Some, Result, Ok, Err}
 use Prim.Native.Nat.{ℕ, ◌-◌}
 use native.Mathlib.Omega.{arith}
 use mathlib.Core.Path.{◌≡◌, refl, ◌∙◌, sym, ap}
@@ -11,8 +11,6 @@ use lib.Dec.{ltb}
 use lib.ListN.{length, get_or}
 use borrow.Author.Tests.{ltb-true, lt-ltb}
 use Rattle.basics.specs.Choice.{pick}
-use Rattle.leader.specs.declared.Scan.{Scan}
-use Rattle.leader.specs.declared.Scan.TheVariants.{Leader, Unmeasured}
 use Rattle.casefile.specs.Parts.{Parts}
 use Rattle.cell.specs.Cell.{unpacked}
 use Rattle.cell.specs.declared.Load.{Load}
@@ -32,6 +30,8 @@ use Rattle.trace.specs.declared.Trace.{Trace}
 use Rattle.trace.specs.declared.Trace.TheVariants.{NoRoom, Traced}
 use Rattle.words.specs.declared.Wording.{Wording}
 use Rattle.evidence.specs.Kind.{CausedIn, KindTwoIn, KindTwo, ActionAlone, OneOrTwoIn, OneOrTwo}
+use Rattle.leader.specs.declared.Scanned.{Scanned}
+use Rattle.leader.specs.Scan.{led_to}
 
 -- ---- kind 2 has a cause: what is said is taken apart, from the fault to the slot
 
@@ -41,7 +41,7 @@ module _ (manner : Manner) (p : Parts) (room : ℕ) (message : List ℕ) (scan b
 
   module _ (action : Action) (depth : ℕ)
       (decodes : decoded p.code p.members p.member_count p.fault ≡ Failed action depth) where
-    module _ (leader scanned : ℕ) (leads : scan_of p ≡ Leader leader scanned) where
+    module _ (leader scanned : ℕ) (leads : scan_of p ≡ led_to leader scanned) where
       module _ (slots : List ℕ) (count : ℕ)
           (walks :
           block_walk_in manner.model p.code p.members p.member_count leader p.fault room ≡ fits (done slots count)) where
@@ -64,7 +64,7 @@ module _ (manner : Manner) (p : Parts) (room : ℕ) (message : List ℕ) (scan b
               load = l.load;
               local = l.local;
               decodes = decodes;
-              leads = leads ∙ ap (Leader leader) scans;
+              leads = leads ∙ ap (led_to leader) scans;
               walks = walks ∙ ap (λ (n : ℕ). fits (done slots n)) counts;
               high = omega (arith, ltb-true depth (length slots) high);
               slot = e;
@@ -87,12 +87,12 @@ module _ (manner : Manner) (p : Parts) (room : ℕ) (message : List ℕ) (scan b
       by_walk (fits (done slots count)) e told = by_height slots count e (ltb depth (length slots)) refl told
 
     by_scan :
-        (x : Scan) → scan_of p ≡ x →
+        (x : Result Scanned Scanned) → scan_of p ≡ x →
         Two (said_by manner.wording p action (traced_by manner.model p.code p.members p.member_count p.fault depth room x)) →
         CausedIn manner p room message scan block
-    by_scan (Leader leader scanned) e told =
-        by_walk leader scanned e (block_walk_in manner.model p.code p.members p.member_count leader p.fault room) refl told
-    by_scan (Unmeasured at scanned) e told = let z : ◌≡◌ {A = ℕ} 1 2 = cc in absurd (omega arith)
+    by_scan (Ok s) e told =
+        by_walk s.at s.count e (block_walk_in manner.model p.code p.members p.member_count s.at p.fault room) refl told
+    by_scan (Err s) e told = let z : ◌≡◌ {A = ℕ} 1 2 = cc in absurd (omega arith)
 
   by_fault :
       (fault : Fault) → decoded p.code p.members p.member_count p.fault ≡ fault → Two (said_at manner p room fault) →

@@ -1,5 +1,6 @@
 -- What a reserved byte does to a report. A report knows the lengths by its scan alone, so what the scan has of document 01's it has too.
 -- Assumes nothing.
+use Rattle.std.specs.Prelude.{Result}
 use Prim.Native.Nat.{ℕ, ◌≤◌}
 use mathlib.Core.Path.{◌≡◌, ◌∙◌, sym, ap}
 use mathlib.Core.List.{List, []}
@@ -7,7 +8,7 @@ use Rattle.basics.specs.Bytes.{byte_at}
 use Rattle.bytecode.specs.Length.{document_length}
 use Rattle.bytecode.specs.Rule.{length_rule}
 use Rattle.leader.specs.Scan.{block_leader}
-use Rattle.leader.specs.declared.Scan.{Scan}
+use Rattle.leader.specs.declared.Scanned.{Scanned}
 use Rattle.leaders.specs.Leader.{Arrived}
 use Rattle.leaders.proofs.ByDocument.{led_by_document}
 use Rattle.leaders.proofs.Reserved.{reserved_scan}
@@ -26,7 +27,7 @@ module _ (manner : Manner) (p : Parts) (room : ℕ) where
   said_alike : scan_of p ≡ block_leader document_length [] p.code p.fault → said_in manner p room ≡ said_by_document manner p room
   unfolding said_in
   said_alike same =
-      ap (λ (x : Scan). said_from manner x p room (decoded p.code p.members p.member_count p.fault)) same
+      ap (λ (x : Result Scanned Scanned). said_from manner x p room (decoded p.code p.members p.member_count p.fault)) same
 
   action-alone :
       (count pc : ℕ) →

@@ -12,7 +12,7 @@ use Rattle.basics.specs.Member.{◌∈◌}
 use Rattle.jvms.specs.Branch.{landings_at}
 use Rattle.jvms.specs.Machine.{Pool, State, target}
 use Rattle.bytecode.specs.Rule.{length_rule}
-use Rattle.leader.specs.declared.Scan.TheVariants.{Leader}
+use Rattle.leader.specs.Scan.{led_to}
 use Rattle.leaders.specs.Leader.{Reached}
 use Rattle.casefile.specs.Parts.{Parts, parts_of}
 use Rattle.casefile.specs.Whole.{case_of}
@@ -40,7 +40,7 @@ use Rattle.words.specs.declared.Wording.{Wording}
 -- from the pool's trees
 abbrev pub WellDescribed : Parts → Pool → Type 0
 WellDescribed p pool =
-    (leader scan pc : ℕ) → scan_of p ≡ Leader leader scan → InBlock p.code leader pc →
+    (leader scan pc : ℕ) → scan_of p ≡ led_to leader scan → InBlock p.code leader pc →
     pc ≤ p.fault → Described (lookup_in p.members p.member_count) pool p.code pc
 
 -- ---- what is shown
@@ -68,7 +68,7 @@ pub record Evidence (wording : Wording) (p : Parts) (pool : Pool) (message : Lis
       ++ (ascii " because \"" ++ local_name p.records p.record_count p.signature (is_instance p.flags) local load
       ++ ascii "\" is null")
   -- the block begins at its leader, and nothing that the scan knows lands between that and the fault
-  pub leads : scan_of p ≡ Leader leader scan
+  pub leads : scan_of p ≡ led_to leader scan
   pub nothing_lands :
       (pc x : ℕ) → Reached length_rule p.code pc → x ∈ landings_at p.code pc → leader < x → x ≤ p.fault → ⊥
   -- "from any entering stack, locals and opaque results", over any values

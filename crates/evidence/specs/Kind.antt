@@ -2,7 +2,6 @@
 -- any manner, and of document 01's.
 -- Assumes nothing.
 use Rattle.std.specs.Prelude.{ℕ, ◌-◌, ◌<◌, ◌≡◌, List, ◌⊎◌, length, get_or}
-use Rattle.leader.specs.declared.Scan.TheVariants.{Leader}
 use Rattle.casefile.specs.Parts.{Parts}
 use Rattle.cell.specs.Cell.{some_load, unpacked}
 use Rattle.walk.specs.Room.{fits, block_walk_in}
@@ -15,6 +14,7 @@ use Rattle.answer.specs.Answer.{said}
 use Rattle.report.specs.Report.{document_manner, scan_of, message_of, said_in}
 use Rattle.report.specs.declared.Manner.{Manner}
 use Rattle.words.specs.declared.Wording.{Wording}
+use Rattle.leader.specs.Scan.{led_to}
 
 -- "A cause is given exactly when the walk succeeds, its height exceeds the depth, and the slot at that depth from the top is
 -- a load".
@@ -27,7 +27,7 @@ pub record CausedIn (manner : Manner) (p : Parts) (room : ℕ) (message : List �
   pub local : ℕ
   -- the fault's action, and how deep the reference lies
   pub decodes : decoded p.code p.members p.member_count p.fault ≡ Failed action depth
-  pub leads : scan_of p ≡ Leader leader scan
+  pub leads : scan_of p ≡ led_to leader scan
   -- "the walk succeeds"
   pub walks :
       block_walk_in manner.model p.code p.members p.member_count leader p.fault room ≡ fits (done slots block)

@@ -1,21 +1,21 @@
 -- An answer is told by its numbers.
 -- Assumes nothing.
+use Rattle.std.specs.Prelude.{Result, Ok, Err}
 use Prim.Native.Nat.{ℕ}
 use native.Mathlib.Omega.{arith}
 use mathlib.Core.Path.{◌≡◌, ap₂}
-use Rattle.leader.specs.Scan.{numbered}
-use Rattle.leader.specs.declared.Scan.{Scan}
-use Rattle.leader.specs.declared.Scan.TheVariants.{Leader, Unmeasured}
+use Rattle.leader.specs.Scan.{numbered, led_to, stopped_at}
+use Rattle.leader.specs.declared.Scanned.{Scanned}
 
-pub numbered_injective : (one another : Scan) → numbered one ≡ numbered another → one ≡ another
+pub numbered_injective : (one another : Result Scanned Scanned) → numbered one ≡ numbered another → one ≡ another
 unfolding numbered
-numbered_injective (Leader at count) (Leader at' count') e =
-    let place : at ≡ at' = cc in
-    let counted : count ≡ count' = cc in
-    ap₂ Leader place counted
-numbered_injective (Leader at count) (Unmeasured at' count') e = let z : ◌≡◌ {A = ℕ} 0 1 = cc in absurd (omega arith)
-numbered_injective (Unmeasured at count) (Leader at' count') e = let z : ◌≡◌ {A = ℕ} 0 1 = cc in absurd (omega arith)
-numbered_injective (Unmeasured at count) (Unmeasured at' count') e =
-    let place : at ≡ at' = cc in
-    let counted : count ≡ count' = cc in
-    ap₂ Unmeasured place counted
+numbered_injective (Ok s) (Ok t) e =
+    let place : s.at ≡ t.at = cc in
+    let counted : s.count ≡ t.count = cc in
+    ap₂ led_to place counted
+numbered_injective (Ok s) (Err t) e = absurd cc
+numbered_injective (Err s) (Ok t) e = absurd cc
+numbered_injective (Err s) (Err t) e =
+    let place : s.at ≡ t.at = cc in
+    let counted : s.count ≡ t.count = cc in
+    ap₂ stopped_at place counted

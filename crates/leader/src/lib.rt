@@ -8,16 +8,13 @@ ghost use Rattle.leader.specs.Targets.{entry_targets, switch_targets, leaders_at
 ghost use Rattle.leader.specs.Scan.{block_leader};
 
 use branch::{Branch, branch_of};
-use bytecode::Measure;
 use greatest::{aim, raise};
 
-// What scanning a code answers.
+// What a scan came to, and how many instructions stand before it or are in the code.
 #[derive(Clone, Copy)]
-pub enum Scan {
-    // The greatest leader at or below the fault, and how many instructions the code has.
-    Leader { at: usize, count: usize },
-    // The first instruction that has no length, and how many stand before it.
-    Unmeasured { at: usize, count: usize },
+pub struct Scanned {
+    pub at: usize,
+    pub count: usize,
 }
 
 // The same with the targets of a switch's entries: count offsets from an index on, step bytes from each to the next.
@@ -91,9 +88,9 @@ fn leaders_at(code: &[u8], pc: usize, next: usize, fault: usize, best: usize) ->
     }
 }
 
-// The greatest leader at or below the fault, with one leader more than the code gives. The whole code is measured, past the
-// fault too.
-pub fn scan_with(code: &[u8], extra: usize, fault: usize) -> Scan
+// The greatest leader at or below the fault, with one leader more than the code gives, and how many instructions the code has. The whole
+// code is measured, past the fault too. An Err is the first instruction that has no length, and how many stand before it.
+pub fn scan_with(code: &[u8], extra: usize, fault: usize) -> Result<Scanned, Scanned>
     ensures { result ≡ block_leader length_of (extra ∷ []) code.now fault }
 {
     let lengths = fixed::fixed_lengths();
@@ -101,18 +98,18 @@ pub fn scan_with(code: &[u8], extra: usize, fault: usize) -> Scan
     let mut best: usize = raise(fault, 0, extra);
     let mut count: usize = 0;
     while pc < code.len() {
-        let Measure::Length(bytes) = bytecode::length_by(&lengths, code, pc) else {
-            return Scan::Unmeasured { at: pc, count };
+        let Ok(bytes) = bytecode::length_by(&lengths, code, pc) else {
+            return Err(Scanned { at: pc, count });
         };
         best = leaders_at(code, pc, pc + bytes, fault, best);
         count += 1;
         pc += bytes;
     }
-    Scan::Leader { at: best, count }
+    Ok(Scanned { at: best, count })
 }
 
 // The same with the code's own leaders alone: 0 is one of every code, and adds nothing.
-pub fn block_leader(code: &[u8], fault: usize) -> Scan
+pub fn block_leader(code: &[u8], fault: usize) -> Result<Scanned, Scanned>
     ensures { result ≡ block_leader length_of [] code.now fault }
 {
     scan_with(code, 0, fault)

@@ -1,5 +1,6 @@
 -- Another rule's scan against document 01's: what it reaches, and where it gives a leader or measures alike.
 -- Assumes nothing.
+use Rattle.std.specs.Prelude.{Ok, Result}
 use Prim.Native.Nat.{ℕ, zero, suc, ◌+◌}
 use native.Mathlib.Omega.{arith}
 use mathlib.Core.Path.{◌≡◌, refl, ◌∙◌, sym, ap}
@@ -7,17 +8,15 @@ use mathlib.Core.List.{List, ◌++◌}
 use lib.ListN.{length}
 use Rattle.bytecode.specs.Length.{document_length}
 use Rattle.bytecode.specs.Rule.{LengthRule, document_rule}
-use Rattle.bytecode.specs.declared.Measure.TheVariants.{Length}
 use Rattle.greatest.specs.Greatest.{greatest}
-use Rattle.leader.specs.Scan.{Instructions, instruction, scan_from, instructions, scan_count, leaders_of, answered, block_leader}
-use Rattle.leader.specs.declared.Scan.{Scan}
-use Rattle.leader.specs.declared.Scan.TheVariants.{Leader}
+use Rattle.leader.specs.Scan.{Instructions, instruction, scan_from, instructions, scan_count, leaders_of, answered, block_leader, led_to}
 use Rattle.leader.proofs.Scanning.{Turn, at_end, without, with_length, turn, scan_next, scan_stops, scan_ends}
+use Rattle.leader.specs.declared.Scanned.{Scanned}
 use Rattle.leaders.specs.Leader.{Arrived, start, next, Reached, LedByDocument}
 use Rattle.leaders.proofs.Declared.{has_length}
 
 -- the answer of a scan that has these instructions
-abbrev answer_to : List ℕ → List ℕ → ℕ → Instructions → Scan
+abbrev answer_to : List ℕ → List ℕ → ℕ → Instructions → Result Scanned Scanned
 answer_to extra code fault scanned = answered scanned (greatest fault (extra ++ leaders_of code scanned)) (scan_count scanned)
 
 module _ (rule : LengthRule) (code : List ℕ) where
@@ -39,7 +38,7 @@ module _ (rule : LengthRule) (code : List ℕ) where
 
   -- ---- where it gives a length to all that it reaches and document 01 gives one to
 
-  module _ (alike : (pc n : ℕ) → Reached rule code pc → document_length code pc ≡ Length n → rule.measure code pc ≡ Length n) where
+  module _ (alike : (pc n : ℕ) → Reached rule code pc → document_length code pc ≡ Ok n → rule.measure code pc ≡ Ok n) where
     scans_alike : (k : ℕ) {count pc : ℕ} → Arrived rule code count pc → given k pc ≡ documented k pc
     unfolding scan_from
     scans_alike zero arrived = refl
@@ -60,14 +59,14 @@ module _ (rule : LengthRule) (code : List ℕ) where
   -- ---- where it gives a leader
 
   module _ (best total leader count : ℕ) where
-    whole_alike : (k pc : ℕ) → answered (given k pc) best total ≡ Leader leader count → given k pc ≡ documented k pc
+    whole_alike : (k pc : ℕ) → answered (given k pc) best total ≡ led_to leader count → given k pc ≡ documented k pc
     unfolding scan_from answered
     whole_alike zero pc e = refl
     whole_alike (suc k) pc e = by_turn (turn rule.measure code pc k) e (λ n. whole_alike k (pc + n))
       where
         by_turn :
-            {found : Instructions} → Turn rule.measure code pc k found → answered found best total ≡ Leader leader count →
-            ((n : ℕ) → answered (given k (pc + n)) best total ≡ Leader leader count → given k (pc + n) ≡ documented k (pc + n)) →
+            {found : Instructions} → Turn rule.measure code pc k found → answered found best total ≡ led_to leader count →
+            ((n : ℕ) → answered (given k (pc + n)) best total ≡ led_to leader count → given k (pc + n) ≡ documented k (pc + n)) →
             found ≡ documented (suc k) pc
         by_turn (at_end here) e rest = sym (scan_ends document_length code pc (suc k) here)
         by_turn (without inside none) e rest = let z : ◌≡◌ {A = ℕ} 0 1 = cc in absurd (omega arith)
@@ -77,13 +76,13 @@ module _ (rule : LengthRule) (code : List ℕ) where
 
     -- each instruction that document 01's scan comes to has been measured
     arrives_at_all :
-        answered (instructions rule.measure code) best total ≡ Leader leader count →
+        answered (instructions rule.measure code) best total ≡ led_to leader count →
         {turns pc : ℕ} → Arrived document_rule code turns pc → Arrived rule code turns pc
     arrives_at_all e start = start
     arrives_at_all e (next {count = turns} {pc = pc} {n = n} before inside measured) =
         let here = arrives_at_all e before in
         let long = has_length rule code best total leader count (record { count = turns; arrived = here; inside = inside }) e in
-        let same : Length long.0 ≡ Length n = sym (rule.documented code pc long.0 long.1) ∙ measured in
+        let same : Ok long.0 ≡ Ok n = sym (rule.documented code pc long.0 long.1) ∙ measured in
         next here inside (long.1 ∙ same)
 
 -- ---- all of it
@@ -96,14 +95,14 @@ module _ (rule : LengthRule) (extra code : List ℕ) (fault : ℕ) where
   best = greatest fault (extra ++ leaders_of code scanned)
 
   same-leader :
-      (leader count : ℕ) → block_leader rule.measure extra code fault ≡ Leader leader count →
-      block_leader document_length extra code fault ≡ Leader leader count
+      (leader count : ℕ) → block_leader rule.measure extra code fault ≡ led_to leader count →
+      block_leader document_length extra code fault ≡ led_to leader count
   unfolding block_leader instructions
   same-leader leader count e =
       ap (answer_to extra code fault) (sym (whole_alike rule code best (scan_count scanned) leader count (length code) 0 e)) ∙ e
 
   reaches-all :
-      (leader count : ℕ) → block_leader rule.measure extra code fault ≡ Leader leader count →
+      (leader count : ℕ) → block_leader rule.measure extra code fault ≡ led_to leader count →
       (pc : ℕ) → Reached document_rule code pc → Reached rule code pc
   unfolding block_leader
   reaches-all leader count e pc reached =

@@ -1,6 +1,7 @@
 -- The scan answers the greatest leader as it is declared; condition 3's last clause follows, and what extra leaders do.
 -- Rests on: where instructions land (Landings), the greatest of a list (Most).
 -- Assumes nothing.
+use Rattle.std.specs.Prelude.{Ok, Result, Err}
 use Prim.Native.Nat.{ℕ, zero, suc, ◌+◌, ◌-◌, ◌≤◌, ◌<◌}
 use native.Mathlib.Omega.{arith}
 use native.Mathlib.Nat.{sub-zero}
@@ -17,14 +18,12 @@ use Rattle.basics.specs.Member.{◌∈◌}
 use Rattle.jvms.specs.Branch.{landings_at, ends_block}
 use Rattle.bytecode.proofs.Laws.{rule_positive, rule_inside}
 use Rattle.bytecode.specs.Rule.{LengthRule}
-use Rattle.bytecode.specs.declared.Measure.TheVariants.{Length}
 use Rattle.greatest.specs.Greatest.{greatest}
-use Rattle.leader.specs.Scan.{Instructions, ended, unmeasured, instruction, scan_from, instructions, scan_count, leaders_of, answered, block_leader}
+use Rattle.leader.specs.Scan.{Instructions, ended, unmeasured, instruction, scan_from, instructions, scan_count, leaders_of, answered, block_leader, led_to, stopped_at}
 use Rattle.leader.specs.Targets.{leaders_at}
-use Rattle.leader.specs.declared.Scan.{Scan}
-use Rattle.leader.specs.declared.Scan.TheVariants.{Leader, Unmeasured}
 use Rattle.leader.proofs.Greatest.{none_more}
-use Rattle.leader.proofs.Scanning.{None, Turn, at_end, without, with_length, turn, scan_one, scan_stops, scan_ends, led_alike as alike}
+use Rattle.leader.proofs.Scanning.{Lengthless, Turn, at_end, without, with_length, turn, scan_one, scan_stops, scan_ends, led_alike as alike}
+use Rattle.leader.specs.declared.Scanned.{Scanned}
 use Rattle.leaders.specs.Leader.{Arrived, start, next, Reached, IsLeader, zeroth, target, after, added, Wanted, Means, LeaderDeclared, NothingLandsBetween, NothingAddedBetween, LedAlike, ZeroAddsNothing}
 use Rattle.leaders.proofs.Landings.{leaders_agree}
 use Rattle.leaders.proofs.Most.{greatest_below, greatest_most, greatest_member}
@@ -50,7 +49,7 @@ module _ (rule : LengthRule) (code : List ℕ) where
 
   -- one instruction more
   rest_goes_on :
-      (count pc n : ℕ) → count < length code → pc < length code → rule.measure code pc ≡ Length n →
+      (count pc n : ℕ) → count < length code → pc < length code → rule.measure code pc ≡ Ok n →
       rest_at count pc ≡ instruction pc n (rest_at (count + 1) (pc + n))
   rest_goes_on count pc n turns inside e =
       let fewer : length code - count - 1 ≡ length code - (count + 1) = omega arith in
@@ -80,13 +79,13 @@ module _ (rule : LengthRule) (code : List ℕ) where
 
   -- ---- what the scan ends with
 
-  abbrev Stops : ℕ → ℕ → Scan → Type 0
-  Stops leader total (Leader at count) = (at ≡ leader) × (count ≡ total) × Arrived rule code count (length code)
-  Stops leader total (Unmeasured pc count) = Arrived rule code count pc × (pc < length code) × None (rule.measure code pc)
+  abbrev Stops : ℕ → ℕ → Result Scanned Scanned → Type 0
+  Stops leader total (Ok s) = (s.at ≡ leader) × (s.count ≡ total) × Arrived rule code s.count (length code)
+  Stops leader total (Err s) = Arrived rule code s.count s.at × (s.at < length code) × Lengthless (rule.measure code s.at)
 
   at_the_end :
       {count pc : ℕ} (leader total : ℕ) → Arrived rule code count pc → length code ≤ pc → total ≡ count + 0 →
-      Stops leader total (Leader leader total)
+      Stops leader total (led_to leader total)
   at_the_end {count} {pc} leader total arrived past counted =
       let there : pc ≡ length code = omega (arith, (arrived_within arrived).1) in
       let all : count ≡ total = omega arith in
@@ -133,7 +132,7 @@ module _ (rule : LengthRule) (code : List ℕ) where
       reached inside = record { count = count; arrived = arrived; inside = inside }
 
       behind :
-          (n : ℕ) → pc < length code → rule.measure code pc ≡ Length n → (b : Bool) → ends_block (byte_at code pc) ≡ b →
+          (n : ℕ) → pc < length code → rule.measure code pc ≡ Ok n → (b : Bool) → ends_block (byte_at code pc) ≡ b →
           x ∈ pick b ((pc + n) ∷ []) [] → IsLeader rule extra code x
       behind n inside measured true e w =
           subst (λ (y : ℕ). IsLeader rule extra code y) (sym (Memᴰ.eq_of_singleton w))
@@ -141,7 +140,7 @@ module _ (rule : LengthRule) (code : List ℕ) where
       behind n inside measured false e w = absurd (Memᴰ.not-nil w)
 
       given :
-          (n : ℕ) → pc < length code → rule.measure code pc ≡ Length n → x ∈ leaders_at code pc (pc + n) → IsLeader rule extra code x
+          (n : ℕ) → pc < length code → rule.measure code pc ≡ Ok n → x ∈ leaders_at code pc (pc + n) → IsLeader rule extra code x
       given n inside measured w =
           ⊎_elim
           (λ (l : x ∈ landings_at code pc). target (reached inside) l)
@@ -162,7 +161,7 @@ module _ (rule : LengthRule) (code : List ℕ) where
 
   -- a measured instruction that is reached has its part in the scan
   gives_own :
-      (x n : ℕ) {pc : ℕ} → Reached rule code pc → rule.measure code pc ≡ Length n → x ∈ leaders_at code pc (pc + n) →
+      (x n : ℕ) {pc : ℕ} → Reached rule code pc → rule.measure code pc ≡ Ok n → x ∈ leaders_at code pc (pc + n) →
       x ∈ leaders_of code (instructions rule.measure code)
   unfolding leaders_of
   gives_own x n {pc} reached measured m =
@@ -174,7 +173,7 @@ module _ (rule : LengthRule) (code : List ℕ) where
   -- where the scan comes to the end, each instruction that is reached has a length
   pub has_length :
       {pc : ℕ} (leader total at count : ℕ) → Reached rule code pc →
-      answered (instructions rule.measure code) leader total ≡ Leader at count → (n : ℕ) × (rule.measure code pc ≡ Length n)
+      answered (instructions rule.measure code) leader total ≡ led_to at count → (n : ℕ) × (rule.measure code pc ≡ Ok n)
   unfolding answered
   has_length {pc} leader total at count reached e =
       let within = arrived_within reached.arrived in
@@ -186,15 +185,15 @@ module _ (rule : LengthRule) (code : List ℕ) where
       ∙ e)
     where
       by_turn :
-          {k : ℕ} {found : Instructions} → Turn rule.measure code pc k found → answered found leader total ≡ Leader at count →
-          (n : ℕ) × (rule.measure code pc ≡ Length n)
+          {k : ℕ} {found : Instructions} → Turn rule.measure code pc k found → answered found leader total ≡ led_to at count →
+          (n : ℕ) × (rule.measure code pc ≡ Ok n)
       by_turn (at_end here) ends = absurd (omega (arith, here, reached.inside))
       by_turn (without inside none) ends = let z : ◌≡◌ {A = ℕ} 0 1 = cc in absurd (omega arith)
       by_turn (with_length {n = n} inside measured) ends = (n, measured)
 
   backward :
       (are : AreBytes code) (extra : List ℕ) {x : ℕ} (leader total at count : ℕ) →
-      answered (instructions rule.measure code) leader total ≡ Leader at count → IsLeader rule extra code x →
+      answered (instructions rule.measure code) leader total ≡ led_to at count → IsLeader rule extra code x →
       (x ≡ 0) ⊎ (x ∈ extra ++ leaders_of code (instructions rule.measure code))
   backward are extra leader total at count e zeroth = inl refl
   backward are extra leader total at count e (target {pc = pc} {x = x} reached m) =
@@ -220,7 +219,7 @@ module _ (rule : LengthRule) (code : List ℕ) where
 -- the scan stops where an instruction that it comes to has no length
 pub stops_at :
     (rule : LengthRule) (extra code : List ℕ) (fault count pc : ℕ) → Arrived rule code count pc → pc < length code →
-    None (rule.measure code pc) → Unmeasured pc count ≡ block_leader rule.measure extra code fault
+    Lengthless (rule.measure code pc) → stopped_at pc count ≡ block_leader rule.measure extra code fault
 unfolding block_leader answered scan_count
 stops_at rule extra code fault count pc arrived inside none =
     let scanned = instructions rule.measure code in
@@ -229,7 +228,7 @@ stops_at rule extra code fault count pc arrived inside none =
     let within = arrived_within rule code arrived in
     let some : 0 < length code - count = omega (arith, within.0, inside) in
     let cut : rest_at rule code count pc ≡ unmeasured pc = scan_stops rule.measure code pc (length code - count) some inside none in
-    ap₂ Unmeasured refl (omega (arith, here.counts, ap scan_count cut))
+    ap₂ stopped_at refl (omega (arith, here.counts, ap scan_count cut))
     ∙ sym (here.ends best (scan_count scanned) ∙ ap (λ (r : Instructions). answered r best (scan_count scanned)) cut)
 
 module _ (rule : LengthRule) (extra code : List ℕ) (are : AreBytes code) (fault : ℕ) where
@@ -240,7 +239,7 @@ module _ (rule : LengthRule) (extra code : List ℕ) (are : AreBytes code) (faul
   abbrev best : ℕ
   best = greatest fault (extra ++ leaders_of code scanned)
 
-  best_wanted : (at count : ℕ) → answered scanned best (scan_count scanned) ≡ Leader at count → Wanted rule extra code fault best
+  best_wanted : (at count : ℕ) → answered scanned best (scan_count scanned) ≡ led_to at count → Wanted rule extra code fault best
   unfolding instructions
   best_wanted at count e =
       record {
@@ -263,11 +262,11 @@ module _ (rule : LengthRule) (extra code : List ℕ) (are : AreBytes code) (faul
       }
 
   what_it_means :
-      (answer : Scan) → answered scanned best (scan_count scanned) ≡ answer → Stops rule code best (scan_count scanned) answer →
+      (answer : Result Scanned Scanned) → answered scanned best (scan_count scanned) ≡ answer → Stops rule code best (scan_count scanned) answer →
       Means rule extra code fault answer
-  what_it_means (Leader at count) e stop =
-      (stop.2, subst (λ (l : ℕ). Wanted rule extra code fault l) (sym stop.0) (best_wanted at count e))
-  what_it_means (Unmeasured pc count) e stop = stop
+  what_it_means (Ok s) e stop =
+      (stop.2, subst (λ (l : ℕ). Wanted rule extra code fault l) (sym stop.0) (best_wanted s.at s.count e))
+  what_it_means (Err s) e stop = stop
 
   means : Means rule extra code fault (block_leader rule.measure extra code fault)
   unfolding block_leader instructions
@@ -275,30 +274,30 @@ module _ (rule : LengthRule) (extra code : List ℕ) (are : AreBytes code) (faul
       what_it_means (answered scanned best (scan_count scanned)) refl
       (stops rule code (length code) 0 0 start (omega arith) best (scan_count scanned) (omega arith))
 
-  only : (answer : Scan) → Means rule extra code fault answer → answer ≡ block_leader rule.measure extra code fault
+  only : (answer : Result Scanned Scanned) → Means rule extra code fault answer → answer ≡ block_leader rule.measure extra code fault
   unfolding block_leader answered scan_count
-  only (Leader leader count) m =
+  only (Ok s) m =
       let here = along rule code m.0 in
-      let done : rest_at rule code count (length code) ≡ ended = scan_ends rule.measure code (length code) (length code - count) (omega arith) in
-      let answers : answered scanned best (scan_count scanned) ≡ Leader best (scan_count scanned) =
+      let done : rest_at rule code s.count (length code) ≡ ended = scan_ends rule.measure code (length code) (length code - s.count) (omega arith) in
+      let answers : answered scanned best (scan_count scanned) ≡ led_to best (scan_count scanned) =
       here.ends best (scan_count scanned) ∙ ap (λ (r : Instructions). answered r best (scan_count scanned)) done in
       let wanted = best_wanted best (scan_count scanned) answers in
-      let least = wanted.greatest leader m.1.is_leader m.1.at_or_below in
+      let least = wanted.greatest s.at m.1.is_leader m.1.at_or_below in
       let most = m.1.greatest best wanted.is_leader wanted.at_or_below in
-      ap₂ Leader (omega arith) (omega (arith, here.counts, ap scan_count done)) ∙ sym answers
-  only (Unmeasured pc count) m = stops_at rule extra code fault count pc m.0 m.1 m.2
+      ap₂ led_to (omega arith) (omega (arith, here.counts, ap scan_count done)) ∙ sym answers
+  only (Err s) m = stops_at rule extra code fault s.count s.at m.0 m.1 m.2
 
 pub leader_declared : LeaderDeclared
 leader_declared = record { means = means; only = only }
 
 pub nothing_lands_between : NothingLandsBetween
 nothing_lands_between rule extra code are fault leader count inside e pc x reached lands above below =
-    let wanted = (subst (λ (s : Scan). Means rule extra code fault s) e (means rule extra code are fault)).1 in
+    let wanted = (subst (λ (s : Result Scanned Scanned). Means rule extra code fault s) e (means rule extra code are fault)).1 in
     omega (arith, wanted.greatest x (target reached lands) below)
 
 pub nothing_added_between : NothingAddedBetween
 nothing_added_between rule extra code are fault leader count e x listed above below =
-    let wanted = (subst (λ (s : Scan). Means rule extra code fault s) e (means rule extra code are fault)).1 in
+    let wanted = (subst (λ (s : Result Scanned Scanned). Means rule extra code fault s) e (means rule extra code are fault)).1 in
     omega (arith, wanted.greatest x (added listed) below)
 
 pub led_alike : LedAlike

@@ -7,9 +7,8 @@ use mathlib.Core.List.{List}
 use Rattle.basics.specs.Bytes.{byte_at}
 use Rattle.bytecode.specs.Length.{length_of}
 use Rattle.bytecode.specs.Rule.{length_rule, document_rule}
-use Rattle.leader.specs.Scan.{block_leader}
-use Rattle.leader.specs.declared.Scan.TheVariants.{Leader, Unmeasured}
-use Rattle.leader.proofs.Scanning.{reserved_is_none}
+use Rattle.leader.specs.Scan.{block_leader, led_to, stopped_at}
+use Rattle.leader.proofs.Scanning.{err_is_none}
 use Rattle.lengths.proofs.Reserved.{reserved_bytes}
 use Rattle.leaders.specs.Leader.{Arrived, Reached}
 use Rattle.leaders.specs.Reserved.{ReservedScan}
@@ -19,15 +18,15 @@ use Rattle.leaders.proofs.Declared.{stops_at}
 module _ (extra code : List ℕ) (fault : ℕ) where
   stops_there :
       (count pc : ℕ) → Arrived length_rule code count pc → 202 ≤ byte_at code pc →
-      block_leader length_of extra code fault ≡ Unmeasured pc count
+      block_leader length_of extra code fault ≡ stopped_at pc count
   stops_there count pc arrived high =
       let is = reserved_bytes.always code pc high in
-      sym (stops_at length_rule extra code fault count pc arrived (reserved_bytes.only code pc is).0 (reserved_is_none is))
+      sym (stops_at length_rule extra code fault count pc arrived (reserved_bytes.only code pc is).0 (err_is_none is))
 
   -- a scan with a leader has reached all that document 01's reaches, so it would have stopped there
   no-leader :
       (pc leader count : ℕ) → Reached document_rule code pc → 202 ≤ byte_at code pc →
-      block_leader length_of extra code fault ≡ Leader leader count → ⊥
+      block_leader length_of extra code fault ≡ led_to leader count → ⊥
   no-leader pc leader count reached high e =
       let here = led_by_document.reaches_all length_rule extra code fault leader count e pc reached in
       let stop = stops_there here.count pc here.arrived high in

@@ -1,6 +1,7 @@
 -- Instructions are measured by JVMS's formats, and by document 01's counts where JVMS has none; a reserved opcode by none. Rests on
 -- the signed reading.
 -- Assumes nothing.
+use Rattle.std.specs.Prelude.{Err}
 use Prim.Native.Nat.{ℕ, zero, suc, ◌+◌, ◌*◌, ◌^◌}
 use native.Mathlib.Omega.{arith}
 use mathlib.Core.Path.{◌≡◌, refl, ◌∙◌, ap}
@@ -15,7 +16,7 @@ use Rattle.jvms.specs.Extent.{Extent, takes, reserved_opcode, not_widened, low_a
 use Rattle.jvms.specs.Extent.{natural, padding, default_at, signed32_at, span, table_extent, lookup_extent, widened_locals, extent_by, extent_at}
 use Rattle.bytecode.specs.Length.{operands_at, table_entries, lookup_pairs, table_bytes, lookup_bytes, wide_bytes}
 use Rattle.bytecode.specs.Length.{bytes_by, bytes_of, within, document_length, length_of}
-use Rattle.bytecode.specs.declared.Measure.TheVariants.{Reserved}
+use Rattle.bytecode.specs.declared.Unmeasured.TheVariants.{Reserved}
 use Rattle.reads.specs.Signed.{i32_at}
 use Rattle.jvms.proofs.Reserved.{is_reserved, reserved_from_202}
 use Rattle.lengths.specs.Agreement.{told, LengthsAgree, Tells}
@@ -58,7 +59,7 @@ module _ (code : List ℕ) (are : AreBytes code) (pc : ℕ) where
       (count_is (signed32_at code (operands_at pc + 4)) (2 ^ 31) (i32_at code (operands_at pc + 4))
       (signed_reading.of32 code are (operands_at pc + 4)))
 
-  by_format : (f : Format) → pick (is_reserved f) Reserved (within code pc (bytes_by f code pc)) ≡ told (extent_by f code pc) code pc
+  by_format : (f : Format) → pick (is_reserved f) (Err Reserved) (within code pc (bytes_by f code pc)) ≡ told (extent_by f code pc) code pc
   unfolding table_bytes lookup_bytes wide_bytes
   by_format (fixed os) = refl
   by_format tableswitch =

@@ -1,5 +1,6 @@
 -- What is said of reserved bytes holds: by JVMS's table, and by the rule's one test.
 -- Assumes nothing.
+use Rattle.std.specs.Prelude.{Result, Ok, Err}
 use Prim.Native.Nat.{ℕ, ◌+◌, ◌≤◌, ◌<◌}
 use native.Mathlib.Omega.{arith}
 use mathlib.Core.Path.{◌≡◌, refl, ◌∙◌, sym, ap}
@@ -14,9 +15,9 @@ use Rattle.basics.proofs.Bytes.{byte_past}
 use Rattle.jvms.specs.Format.{Format, fixed, tableswitch, lookupswitch, wide, reserved, format_of}
 use Rattle.jvms.proofs.Reserved.{is_reserved, reserved_from_202}
 use Rattle.bytecode.specs.Length.{wide_bytes, bytes_of, within, document_length, reserved_byte, length_of}
-use Rattle.bytecode.specs.declared.Measure.{Measure}
-use Rattle.bytecode.specs.declared.Measure.TheVariants.{Length, NoLength, Reserved}
 use Rattle.bytecode.proofs.Measuring.{is-reserved, not_reserved, fits, passes, none_past}
+use Rattle.bytecode.specs.declared.Unmeasured.{Unmeasured}
+use Rattle.bytecode.specs.declared.Unmeasured.TheVariants.{NoLength, Reserved}
 use Rattle.lengths.specs.Reserved.{ReservedBytes}
 
 -- ---- JVMS's table
@@ -42,10 +43,10 @@ module _ (code : List ℕ) (pc : ℕ) where
       by_test false e = omega (arith, leb-false (length code) pc e)
 
   -- which answer the rule gave: of a reserved byte, of an instruction that passes the end, of one that does not
-  data Answered : Measure → Type 0 where
-    as_reserved : 202 ≤ byte_at code pc → Answered Reserved
-    as_cut : byte_at code pc < 202 → length code < pc + bytes_of code pc → Answered NoLength
-    as_whole : byte_at code pc < 202 → pc + bytes_of code pc ≤ length code → Answered (Length (bytes_of code pc))
+  data Answered : (Result ℕ Unmeasured) → Type 0 where
+    as_reserved : 202 ≤ byte_at code pc → Answered (Err Reserved)
+    as_cut : byte_at code pc < 202 → length code < pc + bytes_of code pc → Answered (Err NoLength)
+    as_whole : byte_at code pc < 202 → pc + bytes_of code pc ≤ length code → Answered (Ok (bytes_of code pc))
 
   answered : Answered (length_of code pc)
   unfolding length_of document_length within
@@ -54,25 +55,25 @@ module _ (code : List ℕ) (pc : ℕ) where
     where
       by_test :
           (r : Bool) → reserved_byte (byte_at code pc) ≡ r → (t : Bool) → leb (pc + bytes_of code pc) (length code) ≡ t →
-          Answered (pick r Reserved (pick t (Length (bytes_of code pc)) NoLength))
+          Answered (pick r (Err Reserved) (pick t (Ok (bytes_of code pc)) (Err NoLength)))
       by_test true high t e = as_reserved (leb-true 202 (byte_at code pc) high)
       by_test false low true e =
           as_whole (omega (arith, leb-false 202 (byte_at code pc) low)) (leb-true (pc + bytes_of code pc) (length code) e)
       by_test false low false e =
           as_cut (omega (arith, leb-false 202 (byte_at code pc) low)) (omega (arith, leb-false (pc + bytes_of code pc) (length code) e))
 
-  reserved_only : {answer : Measure} → Answered answer → answer ≡ Reserved → (pc < length code) × (202 ≤ byte_at code pc)
+  reserved_only : {answer : Result ℕ Unmeasured} → Answered answer → answer ≡ Err Reserved → (pc < length code) × (202 ≤ byte_at code pc)
   reserved_only (as_reserved high) e = (inside high, high)
   reserved_only (as_cut low past) e = let z : ◌≡◌ {A = ℕ} 0 1 = cc in absurd (omega arith)
   reserved_only (as_whole low within) e = let z : ◌≡◌ {A = ℕ} 0 1 = cc in absurd (omega arith)
 
   cut_only :
-      {answer : Measure} → Answered answer → answer ≡ NoLength → (byte_at code pc < 202) × (length code < pc + bytes_of code pc)
+      {answer : Result ℕ Unmeasured} → Answered answer → answer ≡ Err NoLength → (byte_at code pc < 202) × (length code < pc + bytes_of code pc)
   cut_only (as_reserved high) e = let z : ◌≡◌ {A = ℕ} 0 1 = cc in absurd (omega arith)
   cut_only (as_cut low past) e = (low, past)
   cut_only (as_whole low within) e = let z : ◌≡◌ {A = ℕ} 0 1 = cc in absurd (omega arith)
 
-  cut_is : byte_at code pc < 202 → length code < pc + bytes_of code pc → length_of code pc ≡ NoLength
+  cut_is : byte_at code pc < 202 → length code < pc + bytes_of code pc → length_of code pc ≡ Err NoLength
   unfolding document_length
   cut_is low past = sym (passes code pc (bytes_of code pc) past ∙ not_reserved code pc low)
 
@@ -82,7 +83,7 @@ module _ (code : List ℕ) (pc : ℕ) where
       sym (not_reserved code pc (omega arith))
       ∙ rw (is, ne_eqb (byte_at code (pc + 1)) 132 (λ s. omega arith))
 
-  was-one : byte_at code pc < 256 → 202 ≤ byte_at code pc → document_length code pc ≡ Length 1
+  was-one : byte_at code pc < 256 → 202 ≤ byte_at code pc → document_length code pc ≡ Ok 1
   unfolding document_length bytes_of
   was-one below high =
       rw (no-instruction (byte_at code pc) below high) (sym (fits code pc 1 (omega (arith, inside high))))

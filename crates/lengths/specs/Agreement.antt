@@ -1,20 +1,20 @@
 -- Lengths and signed numbers against JVMS, as statements. proofs/ of this crate has a proof of each.
 -- Assumes nothing.
-use Rattle.std.specs.Prelude.{ℕ, ◌+◌, ◌^◌, ◌≡◌, List, pos, ◌+ℤ◌}
+use Rattle.std.specs.Prelude.{ℕ, ◌+◌, ◌^◌, ◌≡◌, List, pos, ◌+ℤ◌, Result, Err}
 use Rattle.std.proofs.Common.{to_z}
 use Rattle.std.specs.Int.{w16, w32}
 use Rattle.basics.specs.Bytes.{u16_at, u32_at, AreBytes}
 use Rattle.jvms.specs.Extent.{Extent, takes, reserved_opcode, not_widened, low_above_high, negative_pairs, padding, extent_at}
 use Rattle.bytecode.specs.Length.{within, length_of}
-use Rattle.bytecode.specs.declared.Measure.{Measure}
-use Rattle.bytecode.specs.declared.Measure.TheVariants.{Reserved}
+use Rattle.bytecode.specs.declared.Unmeasured.{Unmeasured}
+use Rattle.bytecode.specs.declared.Unmeasured.TheVariants.{Reserved}
 use Rattle.reads.specs.Signed.{i16_at, i32_at}
 
 -- What measuring answers: JVMS's length where it has a format. Where it has none: that the opcode is reserved; four bytes for `wide`
 -- before an opcode that it does not widen, a `tableswitch` without entries, a `lookupswitch` without pairs.
-abbrev pub told : Extent → List ℕ → ℕ → Measure
+abbrev pub told : Extent → List ℕ → ℕ → Result ℕ Unmeasured
 told (takes n) code pc = within code pc n
-told reserved_opcode code pc = Reserved
+told reserved_opcode code pc = Err Reserved
 told not_widened code pc = within code pc 4
 told low_above_high code pc = within code pc (1 + padding pc + 4 + 4 + 4)
 told negative_pairs code pc = within code pc (1 + padding pc + 4 + 4)

@@ -1,14 +1,12 @@
 -- Whether there is a message, its action and its scan count do not depend on the model, and the full model drops no cause.
 -- Assumes nothing.
-use Rattle.std.specs.Prelude.{Option, None, Some}
+use Rattle.std.specs.Prelude.{Option, None, Some, Result, Ok, Err}
 use Prim.Native.Nat.{ℕ, ◌≤◌}
 use native.Mathlib.Omega.{arith}
 use mathlib.Core.Path.{◌≡◌, refl, ◌∙◌, sym, ap}
 use mathlib.Core.List.{List}
 use lib.Dec.{lit≤}
 use Rattle.cell.specs.declared.Load.{Load}
-use Rattle.leader.specs.declared.Scan.{Scan}
-use Rattle.leader.specs.declared.Scan.TheVariants.{Leader, Unmeasured}
 use Rattle.casefile.specs.Parts.{Parts}
 use Rattle.walk.specs.Room.{Roomed, lacks, fits, block_walk_in}
 use Rattle.walk.specs.Walk.{done, failed}
@@ -25,10 +23,11 @@ use Rattle.words.specs.declared.Wording.{Wording}
 use Rattle.models.specs.Models.{old, full, SilentAlike, SameAction, ActionsAlike}
 use Rattle.models.proofs.Cause.{same_cause}
 use Rattle.models.proofs.Elsewhere.{fault}
+use Rattle.leader.specs.declared.Scanned.{Scanned}
 
-abbrev scanned : Scan → ℕ
-scanned (Leader leader scan) = scan
-scanned (Unmeasured at scan) = scan
+abbrev scanned : Result Scanned Scanned → ℕ
+scanned (Ok s) = s.count
+scanned (Err s) = s.count
 
 -- ---- nothing to say
 
@@ -72,13 +71,13 @@ module _ (manner : Manner) (p : Parts) (room : ℕ) (message : List ℕ) (kind s
 
   module _ (action : Action) (depth : ℕ) (decodes : fault p ≡ Failed action depth) where
     trace_scans :
-        (x : Scan) (s count : ℕ) (cause : Option Load) →
+        (x : Result Scanned Scanned) (s count : ℕ) (cause : Option Load) →
         traced_by manner.model p.code p.members p.member_count p.fault depth room x ≡ Traced s count cause →
         s ≡ scanned x
-    trace_scans (Leader leader seen) s count cause e =
-        walk_scans seen depth (block_walk_in manner.model p.code p.members p.member_count leader p.fault room)
+    trace_scans (Ok x) s count cause e =
+        walk_scans x.count depth (block_walk_in manner.model p.code p.members p.member_count x.at p.fault room)
         s count cause e
-    trace_scans (Unmeasured at seen) s count cause e = cc
+    trace_scans (Err x) s count cause e = cc
 
     by_trace :
         (trace : Trace) → traced_in manner.model p depth room ≡ trace →

@@ -1,7 +1,7 @@
 -- A walk and a report in document 01's model are what they would be by document 01's cells: the walks go alike, and slots that hold the
 -- same give one cause.
 -- Assumes nothing.
-use Rattle.std.specs.Prelude.{None}
+use Rattle.std.specs.Prelude.{None, Result, Ok, Err}
 use Prim.Native.Nat.{ℕ, ◌-◌, ◌^◌, ◌≤◌, ◌<◌}
 use native.Mathlib.Omega.{arith}
 use mathlib.Core.Path.{◌≡◌, refl, ◌∙◌, sym, ap}
@@ -14,8 +14,6 @@ use Rattle.basics.specs.Bytes.{AreBytes}
 use Rattle.basics.specs.Choice.{pick}
 use Rattle.basics.specs.Each.{Each}
 use Rattle.basics.proofs.Each.{each_length, each_at}
-use Rattle.leader.specs.declared.Scan.{Scan}
-use Rattle.leader.specs.declared.Scan.TheVariants.{Leader, Unmeasured}
 use Rattle.casefile.specs.Parts.{Parts, parts_of}
 use Rattle.casefile.specs.Whole.{longest, case_of}
 use Rattle.casefile.specs.declared.Case.{Case}
@@ -43,6 +41,7 @@ use Rattle.report.specs.Report.{manner_of, scan_of, traced_from, said_by, said_a
 use Rattle.evidence.proofs.Evidence.{code_bytes}
 use Rattle.words.specs.declared.Wording.{Wording}
 use Rattle.models.specs.Cells.{former_walk, former_slot, former_trace, former_traced, former_said_at, former_said, former_answer, former_output, PresentUnmoved}
+use Rattle.leader.specs.declared.Scanned.{Scanned}
 
 -- ---- a cause
 
@@ -104,11 +103,11 @@ module _ (code members : List ℕ) (are : AreBytes code) (short : length code �
 -- ---- parts
 
 module _ (p : Parts) (are : AreBytes p.code) (short : length p.code ≤ 2 ^ 48) where
-  traced_same : (depth room : ℕ) (scan : Scan) → traced_from Document scan p depth room ≡ former_traced p depth room scan
-  traced_same depth room (Leader leader scan) =
-      walks_same p.code p.members are short p.member_count leader p.fault room (trace_of scan depth) (former_trace scan depth)
-      (λ index. refl) (λ v w alike. end_same scan depth alike)
-  traced_same depth room (Unmeasured at scan) = refl
+  traced_same : (depth room : ℕ) (scan : Result Scanned Scanned) → traced_from Document scan p depth room ≡ former_traced p depth room scan
+  traced_same depth room (Ok s) =
+      walks_same p.code p.members are short p.member_count s.at p.fault room (trace_of s.count depth) (former_trace s.count depth)
+      (λ index. refl) (λ v w alike. end_same s.count depth alike)
+  traced_same depth room (Err s) = refl
 
   said-at :
       (w : Wording) (room : ℕ) (fault : Fault) → said_at (manner_of Document w) p room fault ≡ former_said_at w p room fault

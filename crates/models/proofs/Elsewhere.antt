@@ -1,11 +1,10 @@
 -- Where document 01's model does not give up, the full one says the same; and where the one lacks room, so does the other.
 -- Rests on the two walks.
 -- Assumes nothing.
+use Rattle.std.specs.Prelude.{Result, Ok, Err}
 use Prim.Native.Nat.{ℕ}
 use native.Mathlib.Omega.{arith}
 use mathlib.Core.Path.{◌≡◌, refl, ap}
-use Rattle.leader.specs.declared.Scan.{Scan}
-use Rattle.leader.specs.declared.Scan.TheVariants.{Leader, Unmeasured}
 use Rattle.casefile.specs.Parts.{Parts}
 use Rattle.effects.specs.declared.Model.{Model}
 use Rattle.effects.specs.declared.Model.TheVariants.{Document, Full}
@@ -21,6 +20,8 @@ use Rattle.trace.specs.Trace.{trace_of}
 use Rattle.words.specs.declared.Wording.{Wording}
 use Rattle.models.specs.Models.{old, full, SameElsewhere, SameLack}
 use Rattle.models.proofs.Walk.{full_is, full_lacks}
+use Rattle.leader.specs.declared.Scanned.{Scanned}
+use Rattle.leader.specs.Scan.{led_to}
 
 abbrev pub fault : Parts → Fault
 fault p = decoded p.code p.members p.member_count p.fault
@@ -35,13 +36,13 @@ walk_in model p leader room = block_walk_in model p.code p.members p.member_coun
 -- all but the walk is the same, so what holds of it in both models holds of what is said
 module _ (w : Wording) (p : Parts) (room : ℕ) (Holds : Said → Said → Type 0) (same : (what : Said) → Holds what what)
     (walks :
-    (action : Action) (depth leader scan : ℕ) → fault p ≡ Failed action depth → scan_of p ≡ Leader leader scan →
+    (action : Action) (depth leader scan : ℕ) → fault p ≡ Failed action depth → scan_of p ≡ led_to leader scan →
     Holds (told w p action depth scan (walk_in Document p leader room)) (told w p action depth scan (walk_in Full p leader room))) where
   by_scan :
-      (action : Action) (depth : ℕ) → fault p ≡ Failed action depth → (scan : Scan) → scan_of p ≡ scan →
+      (action : Action) (depth : ℕ) → fault p ≡ Failed action depth → (scan : Result Scanned Scanned) → scan_of p ≡ scan →
       Holds (said_by w p action (traced_from Document scan p depth room)) (said_by w p action (traced_from Full scan p depth room))
-  by_scan action depth decodes (Leader leader scan) leads = walks action depth leader scan decodes leads
-  by_scan action depth decodes (Unmeasured at scan) leads = same (said_by w p action (traced_from Full (Unmeasured at scan) p depth room))
+  by_scan action depth decodes (Ok s) leads = walks action depth s.at s.count decodes leads
+  by_scan action depth decodes (Err s) leads = same (said_by w p action (traced_from Full (Err s) p depth room))
 
   by_fault : (f : Fault) → fault p ≡ f → Holds (said_at (old w) p room f) (said_at (full w) p room f)
   by_fault Nothing decodes = same silent

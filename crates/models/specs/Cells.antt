@@ -2,12 +2,10 @@
 -- answers and writes, is what it would be by document 01's cells. That this model goes by opcodes alone, as before the request, is
 -- `ByOpcode` of crates/effects/specs/Agreement.antt. proofs/Cells.antt has the proof.
 -- Assumes nothing.
-use Rattle.std.specs.Prelude.{ℕ, ◌-◌, ◌^◌, ◌≤◌, ◌≡◌, List, ltb, length, get_or, Option, None}
+use Rattle.std.specs.Prelude.{ℕ, ◌-◌, ◌^◌, ◌≤◌, ◌≡◌, List, ltb, length, get_or, Option, None, Result, Ok, Err}
 use Rattle.cell.specs.declared.Load.{Load}
 use Rattle.basics.specs.Bytes.{AreBytes}
 use Rattle.basics.specs.Choice.{pick}
-use Rattle.leader.specs.declared.Scan.{Scan}
-use Rattle.leader.specs.declared.Scan.TheVariants.{Leader, Unmeasured}
 use Rattle.casefile.specs.Parts.{Parts, parts_of}
 use Rattle.casefile.specs.Whole.{case_of}
 use Rattle.casefile.specs.declared.Case.{Case}
@@ -29,6 +27,7 @@ use Rattle.answer.specs.declared.Report.{Report}
 use Rattle.answer.specs.declared.Report.TheVariants as report
 use Rattle.words.specs.declared.Wording.{Wording}
 use Rattle.report.specs.Report.{manner_of, scan_of, said_by, said_in, report_in, reported_by}
+use Rattle.leader.specs.declared.Scanned.{Scanned}
 
 -- ---- a walk and a report by document 01's cells, as those of crates/walk/specs and crates/report/specs are by the cells in use
 
@@ -45,10 +44,10 @@ former_trace scan depth (lacks index) = NoRoom index
 former_trace scan depth (fits (failed block index reason)) = Traced scan block None
 former_trace scan depth (fits (done slots block)) = Traced scan block (former_slot slots depth)
 
-abbrev pub former_traced : Parts → ℕ → ℕ → Scan → Trace
-former_traced p depth room (Leader leader scan) =
-    former_trace scan depth (former_walk p.code p.members p.member_count leader p.fault room)
-former_traced p depth room (Unmeasured at scan) = Traced scan 0 None
+abbrev pub former_traced : Parts → ℕ → ℕ → Result Scanned Scanned → Trace
+former_traced p depth room (Ok s) =
+    former_trace s.count depth (former_walk p.code p.members p.member_count s.at p.fault room)
+former_traced p depth room (Err s) = Traced s.count 0 None
 
 abbrev pub former_said_at : Wording → Parts → ℕ → Fault → Said
 former_said_at w p room Nothing = silent

@@ -6,7 +6,6 @@
 use Rattle.std.specs.Prelude.{ℕ, ◌≤◌, ◌≡◌, List, length, Option}
 use Rattle.cell.specs.declared.Load.{Load}
 use Rattle.text.specs.Writing.{over}
-use Rattle.leader.specs.declared.Scan.TheVariants.{Leader}
 use Rattle.casefile.specs.Parts.{Parts, parts_of}
 use Rattle.casefile.specs.Whole.{case_of}
 use Rattle.casefile.specs.declared.Case.TheVariants as cases
@@ -24,6 +23,7 @@ use Rattle.answer.specs.declared.Report.TheVariants.{Message, NoMessage, NoRoom}
 use Rattle.report.specs.Report.{manner_of, scan_of, message_of, said_in, report_in, reported_by}
 use Rattle.report.specs.declared.Manner.{Manner}
 use Rattle.words.specs.declared.Wording.{Wording}
+use Rattle.leader.specs.Scan.{led_to}
 
 -- ---- the walk
 
@@ -53,7 +53,7 @@ pub record GivesUp (p : Parts) : Type 0 where
   pub count : ℕ
   pub index : ℕ
   pub decodes : decoded p.code p.members p.member_count p.fault ≡ Failed action depth
-  pub leads : scan_of p ≡ Leader leader scan
+  pub leads : scan_of p ≡ led_to leader scan
   pub walks :
       walk cells row_of (lookup_in p.members p.member_count) p.code p.fault leader ≡ failed count index not_modelled
 

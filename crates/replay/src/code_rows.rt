@@ -1,8 +1,8 @@
 // Rows on code: lengths, leaders and walks.
-use bytecode::Measure;
+use bytecode::Unmeasured;
 use cell::Load;
 use effects::Model;
-use leader::Scan;
+use leader::Scanned;
 use notation::first_numbers;
 use text::{put_at, put_decimal_at};
 use told::{Told, nothing, told, told_with};
@@ -11,17 +11,17 @@ use walk::Walk;
 // length | what | code | index => the length, or none, and whether the byte is reserved
 fn length(code: &[u8], pc: usize) -> Told {
     match bytecode::instruction_length(code, pc) {
-        Measure::Length(n) => told(0, n, 0, 0),
-        Measure::NoLength => told(1, 0, 0, 0),
-        Measure::Reserved => told(2, 0, 0, 0),
+        Ok(n) => told(0, n, 0, 0),
+        Err(Unmeasured::NoLength) => told(1, 0, 0, 0),
+        Err(Unmeasured::Reserved) => told(2, 0, 0, 0),
     }
 }
 
 // leader | what | code | fault => the leader, or where there is no length, and the scan count
 fn leader(code: &[u8], fault: usize) -> Told {
     match leader::block_leader(code, fault) {
-        Scan::Leader { at, count } => told(0, at, count, 0),
-        Scan::Unmeasured { at, count } => told(1, at, count, 0),
+        Ok(Scanned { at, count }) => told(0, at, count, 0),
+        Err(Scanned { at, count }) => told(1, at, count, 0),
     }
 }
 

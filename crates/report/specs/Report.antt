@@ -1,11 +1,11 @@
 -- The report of a case (document 01, "Numbers returned"): its answer, the output and the stack at exit. It is asked for in a manner: the
 -- model of its walk (document 02, request 1) and the wording of its message (request 11).
 -- Assumes nothing.
-use Rattle.std.specs.Prelude.{ℕ, zero, suc, List, [], Option}
+use Rattle.std.specs.Prelude.{ℕ, zero, suc, List, [], Option, Result}
 use Rattle.cell.specs.declared.Load.{Load}
 use Rattle.bytecode.specs.Length.{length_of}
 use Rattle.leader.specs.Scan.{block_leader}
-use Rattle.leader.specs.declared.Scan.{Scan}
+use Rattle.leader.specs.declared.Scanned.{Scanned}
 use Rattle.casefile.specs.Parts.{Parts, parts_of}
 use Rattle.casefile.specs.Whole.{case_of}
 use Rattle.casefile.specs.declared.Case.{Case}
@@ -69,12 +69,12 @@ parts_by flags fault code signature members member_count records record_count =
     }
 
 -- how a report scans: with no leader but those that the code gives
-abbrev pub scan_of : Parts → Scan
+abbrev pub scan_of : Parts → Result Scanned Scanned
 scan_of p = block_leader length_of [] p.code p.fault
 
 -- the cause of the fault in a model, whose reference lies at a depth, with so many cells lent: over what a scan answered, and over
 -- the report's
-abbrev pub traced_from : Model → Scan → Parts → ℕ → ℕ → Trace
+abbrev pub traced_from : Model → Result Scanned Scanned → Parts → ℕ → ℕ → Trace
 traced_from model scan p depth room = traced_by model p.code p.members p.member_count p.fault depth room scan
 
 abbrev pub traced_in : Model → Parts → ℕ → ℕ → Trace
@@ -84,7 +84,7 @@ abbrev pub said_by : Wording → Parts → Action → Trace → Said
 said_by wording p action (trace.NoRoom index) = roomless index
 said_by wording p action (trace.Traced scan block cause) = said (message_of wording p action cause) (kind_of cause) scan block
 
-abbrev pub said_from : Manner → Scan → Parts → ℕ → Fault → Said
+abbrev pub said_from : Manner → Result Scanned Scanned → Parts → ℕ → Fault → Said
 said_from manner scan p room Nothing = silent
 said_from manner scan p room (Failed action depth) = said_by manner.wording p action (traced_from manner.model scan p depth room)
 

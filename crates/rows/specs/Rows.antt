@@ -1,19 +1,18 @@
 -- The rows of document 01's "Bench rows" that are marked P, the example of its program, and rows of document 02's requests, as one
 -- table.
 -- Assumes nothing.
-use Rattle.std.specs.Prelude.{ℕ, ◌≡◌, List, [], ◌∷◌, ◌++◌, length, replicate}
+use Rattle.std.specs.Prelude.{ℕ, ◌≡◌, List, [], ◌∷◌, ◌++◌, length, replicate, Result, Ok, Err}
 use Rattle.bytecode.specs.Length.{length_of}
-use Rattle.bytecode.specs.declared.Measure.{Measure}
-use Rattle.bytecode.specs.declared.Measure.TheVariants.{Length, NoLength, Reserved}
+use Rattle.bytecode.specs.declared.Unmeasured.{Unmeasured}
+use Rattle.bytecode.specs.declared.Unmeasured.TheVariants.{NoLength, Reserved}
 use Rattle.basics.specs.Ascii.{ascii}
 use Rattle.descriptor.specs.Readers.{parameters, return_slots}
 use Rattle.descriptor.specs.declared.Params.{Params}
 use Rattle.descriptor.specs.declared.Params.TheVariants.{Read}
 use Rattle.descriptor.specs.declared.Slots.{Slots}
 use Rattle.descriptor.specs.declared.Slots.TheVariants.{Slots as SlotsOf, Unreadable as NoSlots}
-use Rattle.leader.specs.Scan.{block_leader}
-use Rattle.leader.specs.declared.Scan.{Scan}
-use Rattle.leader.specs.declared.Scan.TheVariants.{Leader, Unmeasured}
+use Rattle.leader.specs.Scan.{block_leader, led_to, stopped_at}
+use Rattle.leader.specs.declared.Scanned.{Scanned}
 use Rattle.names.specs.Names.{parameter_names}
 use Rattle.jdescriptor.specs.Answer.{answer}
 use Rattle.judging.specs.Judged.{numbered}
@@ -129,9 +128,9 @@ example =
 
 pub data Row : Type 0 where
   -- a code, an index of it, and what measuring there answers
-  measures : List ℕ → ℕ → Measure → Row
+  measures : List ℕ → ℕ → Result ℕ Unmeasured → Row
   -- a code, a fault, and what scanning answers
-  leads : List ℕ → ℕ → Scan → Row
+  leads : List ℕ → ℕ → Result Scanned Scanned → Row
   -- a descriptor, and what its parameters are: read, and by name
   takes : List ℕ → Params → Row
   names : List ℕ → List ℕ → Row
@@ -176,29 +175,29 @@ pub data AllHold : List Row → Type 0 where
 unfoldable pub rows : List Row
 rows =
     -- "c4 84 00 01 00 01 is 6; c4 15 00 01 is 4; c4 alone has no length."
-    measures (0xc4 ∷ 0x84 ∷ 0x00 ∷ 0x01 ∷ 0x00 ∷ 0x01 ∷ []) 0 (Length 6) ∷
-    measures (0xc4 ∷ 0x15 ∷ 0x00 ∷ 0x01 ∷ []) 0 (Length 4) ∷
-    measures (0xc4 ∷ []) 0 NoLength ∷
+    measures (0xc4 ∷ 0x84 ∷ 0x00 ∷ 0x01 ∷ 0x00 ∷ 0x01 ∷ []) 0 (Ok 6) ∷
+    measures (0xc4 ∷ 0x15 ∷ 0x00 ∷ 0x01 ∷ []) 0 (Ok 4) ∷
+    measures (0xc4 ∷ []) 0 (Err NoLength) ∷
     -- document 02, request 6: "The bench row for ca changes from 1 to none". 202 to 255 are reserved; 201 is an instruction, here a
     -- cut one. There is nothing past the end, and an operand of `wide` is no opcode.
-    measures (0xca ∷ []) 0 Reserved ∷
-    measures (0xff ∷ []) 0 Reserved ∷
-    measures (0xc9 ∷ []) 0 NoLength ∷
-    measures (0xca ∷ []) 1 NoLength ∷
-    measures (0xc4 ∷ 0xca ∷ 0x00 ∷ 0x01 ∷ []) 0 (Length 4) ∷
+    measures (0xca ∷ []) 0 (Err Reserved) ∷
+    measures (0xff ∷ []) 0 (Err Reserved) ∷
+    measures (0xc9 ∷ []) 0 (Err NoLength) ∷
+    measures (0xca ∷ []) 1 (Err NoLength) ∷
+    measures (0xc4 ∷ 0xca ∷ 0x00 ∷ 0x01 ∷ []) 0 (Ok 4) ∷
     -- "tableswitch, low 0, high 1: 24 at index 0, 21 at index 3. Low 1, high 0 at index 0: 16."
-    measures (0xaa ∷ 0 ∷ 0 ∷ 0 ∷ 0 ∷ 0 ∷ 0 ∷ 0 ∷ 0 ∷ 0 ∷ 0 ∷ 0 ∷ 0 ∷ 0 ∷ 0 ∷ 1 ∷ 0 ∷ 0 ∷ 0 ∷ 0 ∷ 0 ∷ 0 ∷ 0 ∷ 0 ∷ []) 0 (Length 24) ∷
-    measures (0 ∷ 0 ∷ 0 ∷ 0xaa ∷ 0 ∷ 0 ∷ 0 ∷ 0 ∷ 0 ∷ 0 ∷ 0 ∷ 0 ∷ 0 ∷ 0 ∷ 0 ∷ 1 ∷ 0 ∷ 0 ∷ 0 ∷ 0 ∷ 0 ∷ 0 ∷ 0 ∷ 0 ∷ []) 3 (Length 21) ∷
-    measures (0xaa ∷ 0 ∷ 0 ∷ 0 ∷ 0 ∷ 0 ∷ 0 ∷ 0 ∷ 0 ∷ 0 ∷ 0 ∷ 1 ∷ 0 ∷ 0 ∷ 0 ∷ 0 ∷ []) 0 (Length 16) ∷
+    measures (0xaa ∷ 0 ∷ 0 ∷ 0 ∷ 0 ∷ 0 ∷ 0 ∷ 0 ∷ 0 ∷ 0 ∷ 0 ∷ 0 ∷ 0 ∷ 0 ∷ 0 ∷ 1 ∷ 0 ∷ 0 ∷ 0 ∷ 0 ∷ 0 ∷ 0 ∷ 0 ∷ 0 ∷ []) 0 (Ok 24) ∷
+    measures (0 ∷ 0 ∷ 0 ∷ 0xaa ∷ 0 ∷ 0 ∷ 0 ∷ 0 ∷ 0 ∷ 0 ∷ 0 ∷ 0 ∷ 0 ∷ 0 ∷ 0 ∷ 1 ∷ 0 ∷ 0 ∷ 0 ∷ 0 ∷ 0 ∷ 0 ∷ 0 ∷ 0 ∷ []) 3 (Ok 21) ∷
+    measures (0xaa ∷ 0 ∷ 0 ∷ 0 ∷ 0 ∷ 0 ∷ 0 ∷ 0 ∷ 0 ∷ 0 ∷ 0 ∷ 1 ∷ 0 ∷ 0 ∷ 0 ∷ 0 ∷ []) 0 (Ok 16) ∷
     -- "code 00 00 2a be 57 a7 ff fd, fault 3: leader 2, scan 6, kind 2. With ff fe: leader 3, kind 1."
-    leads (0x00 ∷ 0x00 ∷ 0x2a ∷ 0xbe ∷ 0x57 ∷ 0xa7 ∷ 0xff ∷ 0xfd ∷ []) 3 (Leader 2 6) ∷
-    leads (0x00 ∷ 0x00 ∷ 0x2a ∷ 0xbe ∷ 0x57 ∷ 0xa7 ∷ 0xff ∷ 0xfe ∷ []) 3 (Leader 3 6) ∷
+    leads (0x00 ∷ 0x00 ∷ 0x2a ∷ 0xbe ∷ 0x57 ∷ 0xa7 ∷ 0xff ∷ 0xfd ∷ []) 3 (led_to 2 6) ∷
+    leads (0x00 ∷ 0x00 ∷ 0x2a ∷ 0xbe ∷ 0x57 ∷ 0xa7 ∷ 0xff ∷ 0xfe ∷ []) 3 (led_to 3 6) ∷
     reports (static 3 (0x00 ∷ 0x00 ∷ 0x2a ∷ 0xbe ∷ 0x57 ∷ 0xa7 ∷ 0xff ∷ 0xfd ∷ [])) 1 60 (0 ∷ 55 ∷ 2 ∷ 6 ∷ 1 ∷ []) ∷
     reports (static 3 (0x00 ∷ 0x00 ∷ 0x2a ∷ 0xbe ∷ 0x57 ∷ 0xa7 ∷ 0xff ∷ 0xfe ∷ [])) 1 60 (0 ∷ 28 ∷ 1 ∷ 6 ∷ 0 ∷ []) ∷
     -- "code a7 ff ff b1, fault 3: leader 3."
-    leads (0xa7 ∷ 0xff ∷ 0xff ∷ 0xb1 ∷ []) 3 (Leader 3 2) ∷
+    leads (0xa7 ∷ 0xff ∷ 0xff ∷ 0xb1 ∷ []) 3 (led_to 3 2) ∷
     -- document 02, request 6: behind the fault; before it, at the leader; an operand, which moves nothing; at the fault
-    leads (0x2a ∷ 0xbe ∷ 0xca ∷ []) 1 (Unmeasured 2 2) ∷
+    leads (0x2a ∷ 0xbe ∷ 0xca ∷ []) 1 (stopped_at 2 2) ∷
     reports (static 1 (0x2a ∷ 0xbe ∷ 0xca ∷ [])) 8 60 (0 ∷ 28 ∷ 1 ∷ 2 ∷ 0 ∷ []) ∷
     reports (static 2 (0xca ∷ 0x2a ∷ 0xbe ∷ [])) 8 60 (0 ∷ 28 ∷ 1 ∷ 0 ∷ 0 ∷ []) ∷
     reports (static 4 (0x2a ∷ 0x10 ∷ 0xca ∷ 0x57 ∷ 0xbe ∷ [])) 8 60 (0 ∷ 55 ∷ 2 ∷ 4 ∷ 3 ∷ []) ∷

@@ -1,18 +1,18 @@
 -- The library's answers as structs of numbers. An answer's number and what it carries are those of the library's own numbering
 -- (`numbered`, the documents' numbers); a number that an answer does not carry is 0.
 -- Assumes nothing.
-use Rattle.std.specs.Prelude.{ℕ, ◌-◌, ◌^◌, min, List, eqb, get_or}
+use Rattle.std.specs.Prelude.{ℕ, ◌-◌, ◌^◌, min, List, eqb, get_or, Result}
 use Rattle.basics.specs.Choice.{pick}
 use Rattle.walk.specs.Room.{numbered as walk_numbered}
 use Rattle.walk.specs.declared.Walk.{Walk}
 use Rattle.walk.specs.declared.Walk.TheVariants.{Done, Failed, NoRoom}
 use Rattle.bytecode.specs.Length.{numbered as length_numbered}
-use Rattle.bytecode.specs.declared.Measure.{Measure}
+use Rattle.bytecode.specs.declared.Unmeasured.{Unmeasured}
 use Rattle.casefile.specs.Whole.{numbered as case_numbered}
 use Rattle.casefile.specs.declared.Case.{Case}
 use Rattle.judging.specs.Judged.{Answer, numbered as strict_numbered}
 use Rattle.leader.specs.Scan.{numbered as leader_numbered}
-use Rattle.leader.specs.declared.Scan.{Scan}
+use Rattle.leader.specs.declared.Scanned.{Scanned}
 use Rattle.descriptor.specs.declared.Slots.{Slots}
 use Rattle.descriptor.specs.declared.Slots.TheVariants.{Slots as SlotsOf, Unreadable as NoSlots}
 use Rattle.answer.specs.Answer.{numbered as report_numbered}
@@ -46,11 +46,11 @@ report_numbers r =
     }
 
 -- 0 and the length, 1 for a cut instruction, 2 for a reserved byte
-abbrev pub length_numbers : Measure → KorsepalLength
+abbrev pub length_numbers : Result ℕ Unmeasured → KorsepalLength
 length_numbers m = record { status = nth 0 (length_numbered m); length = nth 1 (length_numbered m) }
 
 -- 1, the scan count and the leader; or 0 and the scan count
-abbrev pub leader_numbers : Scan → KorsepalLeader
+abbrev pub leader_numbers : Result Scanned Scanned → KorsepalLeader
 leader_numbers s =
     record {
       found = nth 0 (leader_numbered s);

@@ -5,9 +5,9 @@ ghost use Rattle.std.specs.Prelude.{◌≡◌};
 ghost use Rattle.structs.specs.Structs.{low, report_numbers, length_numbers, leader_numbers, slot_numbers, walk_numbers, strict_numbers};
 
 use answer::Report;
-use bytecode::Measure;
+use bytecode::Unmeasured;
 use descriptor::Slots;
-use leader::Scan;
+use leader::Scanned;
 use refusal::Refusal;
 use walk::Walk;
 
@@ -132,19 +132,19 @@ pub fn report_numbers(answer: Report) -> KorsepalReport
 }
 
 // The numbers of a length.
-pub fn length_numbers(length: Measure) -> KorsepalLength
+pub fn length_numbers(length: Result<usize, Unmeasured>) -> KorsepalLength
     ensures { result ≡ length_numbers length }
 {
     match length {
-        Measure::Length(n) => KorsepalLength {
+        Ok(n) => KorsepalLength {
             status: 0,
             length: n as u64,
         },
-        Measure::NoLength => KorsepalLength {
+        Err(Unmeasured::NoLength) => KorsepalLength {
             status: 1,
             length: 0,
         },
-        Measure::Reserved => KorsepalLength {
+        Err(Unmeasured::Reserved) => KorsepalLength {
             status: 2,
             length: 0,
         },
@@ -152,16 +152,16 @@ pub fn length_numbers(length: Measure) -> KorsepalLength
 }
 
 // The numbers of a scan.
-pub fn leader_numbers(scan: Scan) -> KorsepalLeader
+pub fn leader_numbers(scan: Result<Scanned, Scanned>) -> KorsepalLeader
     ensures { result ≡ leader_numbers scan }
 {
     match scan {
-        Scan::Leader { at, count } => KorsepalLeader {
+        Ok(Scanned { at, count }) => KorsepalLeader {
             found: 1,
             scan: count as u64,
             leader: at as u64,
         },
-        Scan::Unmeasured { at: _, count } => KorsepalLeader {
+        Err(Scanned { at: _, count }) => KorsepalLeader {
             found: 0,
             scan: count as u64,
             leader: 0,

@@ -1,11 +1,10 @@
 -- The cause of a fault, traced over the block that it lies in (document 01, "Action and cause" and "Numbers returned").
 -- Assumes nothing.
-use Rattle.std.specs.Prelude.{ℕ, ◌-◌, List, [], ltb, length, get_or, Option, None}
+use Rattle.std.specs.Prelude.{ℕ, ◌-◌, List, [], ltb, length, get_or, Option, None, Result, Ok, Err}
 use Rattle.basics.specs.Choice.{pick}
 use Rattle.bytecode.specs.Length.{length_of}
 use Rattle.leader.specs.Scan.{block_leader}
-use Rattle.leader.specs.declared.Scan.{Scan}
-use Rattle.leader.specs.declared.Scan.TheVariants.{Leader, Unmeasured}
+use Rattle.leader.specs.declared.Scanned.{Scanned}
 use Rattle.cell.specs.Cell.{unpacked}
 use Rattle.cell.specs.declared.Load.{Load}
 use Rattle.effects.specs.declared.Model.{Model}
@@ -26,10 +25,10 @@ trace_of scan depth (fits (failed block index reason)) = Traced scan block None
 trace_of scan depth (fits (done slots block)) = Traced scan block (slot_from slots depth)
 
 -- "0 where there is no leader"
-abbrev pub traced_by : Model → List ℕ → List ℕ → ℕ → ℕ → ℕ → ℕ → Scan → Trace
-traced_by model code members count fault depth room (Leader leader scan) =
-    trace_of scan depth (block_walk_in model code members count leader fault room)
-traced_by model code members count fault depth room (Unmeasured at scan) = Traced scan 0 None
+abbrev pub traced_by : Model → List ℕ → List ℕ → ℕ → ℕ → ℕ → ℕ → Result Scanned Scanned → Trace
+traced_by model code members count fault depth room (Ok s) =
+    trace_of s.count depth (block_walk_in model code members count s.at fault room)
+traced_by model code members count fault depth room (Err s) = Traced s.count 0 None
 
 -- in a model: the code, so many members, the fault, the depth of its reference, and the cells that are lent
 unfoldable pub traced : Model → List ℕ → List ℕ → ℕ → ℕ → ℕ → ℕ → Trace

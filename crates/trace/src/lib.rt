@@ -9,7 +9,7 @@ ghost use Rattle.trace.specs.Trace.{trace_of, traced};
 
 use cell::{Load, clear};
 use effects::Model;
-use leader::Scan;
+use leader::Scanned;
 use walk::Walk;
 
 // What tracing a cause answers.
@@ -85,13 +85,10 @@ pub fn trace_cause(
     ensures leaves { stack.new ≡ replicate (length stack.old) 0 }
 {
     match leader::block_leader(code, fault) {
-        Scan::Leader {
-            at: leader,
-            count: scan,
-        } => trace_block(
-            model, code, members, count, leader, fault, depth, scan, stack,
+        Ok(Scanned { at, count: scan }) => trace_block(
+            model, code, members, count, at, fault, depth, scan, stack,
         ),
-        Scan::Unmeasured { at: _, count: scan } => {
+        Err(Scanned { at: _, count: scan }) => {
             clear(stack);
             Trace::Traced {
                 scan,

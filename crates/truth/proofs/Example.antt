@@ -15,10 +15,9 @@ use Rattle.jvms.specs.Format.{format_of}
 use Rattle.bytecode.specs.Length.{wide_bytes, bytes_of, within, document_length, length_of}
 use Rattle.fixed.specs.Fixed.{fixed_length}
 use Rattle.greatest.specs.Greatest.{up_to, greatest}
-use Rattle.leader.specs.Scan.{scan_from, instructions, scan_count, leaders_of, answered, block_leader}
+use Rattle.leader.specs.Scan.{scan_from, instructions, scan_count, leaders_of, answered, block_leader, led_to}
 use Rattle.branch.specs.Branch.{branch_of}
 use Rattle.leader.specs.Targets.{leaders_at}
-use Rattle.leader.specs.declared.Scan.TheVariants.{Leader}
 use Rattle.descriptor.specs.Readers.{slots_of, judged, parameters, closing, slots_behind, return_slots, field_slots}
 use Rattle.fieldtype.specs.Search.{first_in, first_from}
 use Rattle.fieldtype.specs.Types.{brackets, type_behind, field_type_at, type_slots, types_from, types_at, types_of}
@@ -101,7 +100,7 @@ module _ (code : List ℕ) (fault : ℕ) where
 
 -- ---- document 01's model
 
-leads : block_leader length_of [] worked.code 14 ≡ Leader 0 12
+leads : block_leader length_of [] worked.code 14 ≡ led_to 0 12
 unfolding block_leader instructions scan_from scan_count leaders_of leaders_at branch_of answered greatest up_to length_of document_length within bytes_of format_of
 leads = refl
 
@@ -132,7 +131,7 @@ named_rightly = cause_true worked pool premises_met 1 0 0 deep (lit< tt) (lit< t
 
 -- ---- the full model
 
-full_leads : block_leader length_of [] full_worked.code 11 ≡ Leader 0 11
+full_leads : block_leader length_of [] full_worked.code 11 ≡ led_to 0 11
 unfolding block_leader instructions scan_from scan_count leaders_of leaders_at branch_of answered greatest up_to length_of document_length within bytes_of format_of
 full_leads = refl
 
@@ -167,7 +166,7 @@ beyond_document = refl
 
 -- ---- the full model, above local 255
 
-far_leads : block_leader length_of [] far_worked.code 15 ≡ Leader 0 6
+far_leads : block_leader length_of [] far_worked.code 15 ≡ led_to 0 6
 unfolding block_leader instructions scan_from scan_count leaders_of leaders_at branch_of answered greatest up_to length_of document_length within bytes_of wide_bytes format_of
 far_leads = refl
 

@@ -1,5 +1,6 @@
 -- One instruction of the walk and of the machine: where it goes, and that the slots still say the truth.
 -- Assumes nothing.
+use Rattle.std.specs.Prelude.{Ok}
 use Prim.Native.Nat.{ℕ, ◌+◌, ◌-◌, ◌≤◌, ◌<◌}
 use native.Mathlib.Omega.{arith}
 use mathlib.Core.Path.{◌≡◌, refl, ◌∙◌, sym, ap}
@@ -14,7 +15,6 @@ use Rattle.jvms.specs.Stack.{objectref, reference, ◌⇒◌, does, Cited, Form,
 use Rattle.jvms.proofs.Keys.{key_below}
 use Rattle.fixed.specs.Fixed.{size_at}
 use Rattle.bytecode.specs.Length.{length_of}
-use Rattle.bytecode.specs.declared.Measure.TheVariants.{Length}
 use Rattle.bytecode.proofs.Measuring.{fits}
 use Rattle.lengths.proofs.Agree.{jvms_length}
 use Rattle.effects.specs.Agreement.{is_modelled, has_effect, taken_by, Pushed, FormAgrees, forms_of, has_form, EffectAgrees}
@@ -78,7 +78,7 @@ module _
     on_by_size : after_it.pc ≡ st.pc + size_of (extent_at s.code st.pc) → after_it.pc ≡ st.pc + size
     on_by_size e = e ∙ ap (λ (x : Extent). st.pc + size_of x) extent
 
-    measured : st.pc + size ≤ s.fault → length_of s.code st.pc ≡ Length size
+    measured : st.pc + size ≤ s.fault → length_of s.code st.pc ≡ Ok size
     measured not_past =
         jvms_length size s.code given.bytes st.pc extent
         ∙ sym (fits s.code st.pc size (omega (arith, given.inside)))

@@ -3,7 +3,7 @@
 -- proofs/Condition.antt has the proof. A report lists no handlers, so it does not cover their entries: an exception handler
 -- that begins inside the block enters it too (document 02, request 8).
 -- Assumes nothing.
-use Rattle.std.specs.Prelude.{ℕ, ◌+◌, ◌-◌, ◌≤◌, ◌<◌, ◌≡◌, List, [], ◌∷◌, T, length, take, get_or}
+use Rattle.std.specs.Prelude.{ℕ, ◌+◌, ◌-◌, ◌≤◌, ◌<◌, ◌≡◌, List, [], ◌∷◌, T, length, take, get_or, Ok}
 use Rattle.basics.specs.Bytes.{byte_at, u16_at, AreBytes}
 use Rattle.basics.specs.Choice.{between}
 use Rattle.basics.specs.Member.{◌∈◌}
@@ -11,10 +11,8 @@ use Rattle.jvms.specs.Branch.{landings_at}
 use Rattle.jvms.specs.Descriptor.{render, render_method, WellFormed, WellFormedMethod}
 use Rattle.jvms.specs.Machine.{Pool, target}
 use Rattle.bytecode.specs.Length.{length_of}
-use Rattle.bytecode.specs.declared.Measure.TheVariants.{Length}
 use Rattle.bytecode.specs.Rule.{LengthRule, document_rule, length_rule}
-use Rattle.leader.specs.Scan.{block_leader}
-use Rattle.leader.specs.declared.Scan.TheVariants.{Leader}
+use Rattle.leader.specs.Scan.{block_leader, led_to}
 use Rattle.leaders.specs.Leader.{Reached}
 use Rattle.effects.specs.Depth.{depth_of, at}
 use Rattle.effects.specs.Lookup.{Lookup, lookup_in, known}
@@ -26,7 +24,7 @@ use Rattle.truth.specs.Translation.{since, TrueTranslation}
 -- an instruction of the block: the leader's, and the one after each that has a length
 pub data InBlock (code : List ℕ) (leader : ℕ) : ℕ → Type 0 where
   first : InBlock code leader leader
-  after : {pc n : ℕ} → InBlock code leader pc → length_of code pc ≡ Length n → InBlock code leader (pc + n)
+  after : {pc n : ℕ} → InBlock code leader pc → length_of code pc ≡ Ok n → InBlock code leader (pc + n)
 
 -- the descriptor that the instruction at an index cites is well formed: it is written from the pool's tree
 pub record Described (lookup : Lookup) (pool : Pool) (code : List ℕ) (pc : ℕ) : Type 0 where
@@ -58,7 +56,7 @@ module _ (rule : LengthRule) (handlers : List ℕ) where
     pub bytes : AreBytes f.code
     -- "the code is measured to its end"
     pub scan : ℕ
-    pub measured : block_leader rule.measure handlers f.code f.fault ≡ Leader f.leader scan
+    pub measured : block_leader rule.measure handlers f.code f.fault ≡ led_to f.leader scan
     -- "the fault lies in it"
     pub inside : f.fault < length f.code
     -- "the block walk succeeds"

@@ -5,4 +5,4 @@ use Rattle.bytecode.proofs.lookup_bytes.Goals as goal
 
 pub returns : goal.returns
 unfolding lookup_bytes lookup_pairs
-returns c = rw (c.minus.ensures, c.read_i32-count.ensures.0, c.operands_at-at.ensures)
+returns c = rw (c.saturating_sub.ensures, c.read_i32-count.ensures.0, c.operands_at-at.ensures)

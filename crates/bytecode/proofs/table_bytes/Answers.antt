@@ -5,4 +5,4 @@ use Rattle.bytecode.proofs.table_bytes.Goals as goal
 
 pub returns : goal.returns
 unfolding table_bytes table_entries
-returns c = rw (c.minus.ensures, c.read_i32-high.ensures.0, c.read_i32-low.ensures.0, c.operands_at-at.ensures)
+returns c = rw (c.saturating_sub.ensures, c.read_i32-high.ensures.0, c.read_i32-low.ensures.0, c.operands_at-at.ensures)

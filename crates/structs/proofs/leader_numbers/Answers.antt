@@ -3,10 +3,10 @@
 use Rattle.leader.specs.Scan.{numbered}
 use Rattle.structs.proofs.leader_numbers.Goals as goal
 
-pub returns-in-Leader : goal.returns-in-Leader
+pub returns-in-Ok : goal.returns-in-Ok
 unfolding numbered
-returns-in-Leader c = rw c.in-Leader.is
+returns-in-Ok c = rw c.in-Ok.is
 
-pub returns-in-Unmeasured : goal.returns-in-Unmeasured
+pub returns-in-Err : goal.returns-in-Err
 unfolding numbered
-returns-in-Unmeasured c = rw c.in-Unmeasured.is
+returns-in-Err c = rw c.in-Err.is
