@@ -58,7 +58,7 @@ fn read_decimal(text: &[u8]) -> Word
         if 9 < digit {
             return Word::Other;
         }
-        value = text::shorter(10 * value + digit, 1000);
+        value = (10 * value + digit).min(1000);
         i += 1;
     }
     Word::Number(wording_by(value))

@@ -18,11 +18,9 @@ fn dot(byte: u8) -> u8
 fn put_dotted(out: &mut [u8], name: &[u8]) -> usize
     ensures { Written 0 (dotted name.now) out.old result out.new }
 {
-    let room = text::shorter(name.len(), out.len());
-    let mut i = 0;
-    while i < room {
+    let room = name.len().min(out.len());
+    for i in 0..room {
         out[i] = dot(name[i]);
-        i += 1;
     }
     name.len()
 }
@@ -56,7 +54,7 @@ pub fn put_class_name(out: &mut [u8], name: &[u8]) -> usize
 pub fn put_class_at(out: &mut [u8], at: usize, name: &[u8]) -> usize
     ensures { Written at (class_name name.now) out.old result out.new }
 {
-    let from = text::shorter(at, out.len());
+    let from = at.min(out.len());
     let n = put_class_name(&mut out[from..], name);
-    text::sum(at, n)
+    at.saturating_add(n)
 }

@@ -16,7 +16,7 @@ fn put_byte_at(out: &mut [u8], at: usize, byte: u8) -> usize
     if at < out.len() {
         out[at] = byte;
     }
-    text::sum(at, 1)
+    at.saturating_add(1)
 }
 
 // Writes a number from a place on: seven bits to a byte, low group first, in its fewest bytes. Answers the place after it. Any number is

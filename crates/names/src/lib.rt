@@ -78,12 +78,10 @@ fn put_base_name(out: &mut [u8], letter: u8) -> usize
 fn put_brackets(out: &mut [u8], dims: usize) -> usize
     ensures { Written 0 (bracket_pairs dims) out.old result out.new }
 {
-    let all = text::sum(dims, dims);
-    let room = text::shorter(all, out.len());
-    let mut i = 0;
-    while i < room {
+    let all = dims.saturating_add(dims);
+    let room = all.min(out.len());
+    for i in 0..room {
         out[i] = bracket(i);
-        i += 1;
     }
     all
 }
@@ -111,17 +109,17 @@ fn put_element_at(out: &mut [u8], at: usize, descriptor: &[u8], t: FieldType) ->
     requires { (t.from ≤ t.to) × (t.to ≤ length descriptor.now) }
     ensures { Written at (element_name descriptor.now t) out.old result out.new }
 {
-    let from = text::shorter(at, out.len());
+    let from = at.min(out.len());
     let n = put_element(&mut out[from..], descriptor, t);
-    text::sum(at, n)
+    at.saturating_add(n)
 }
 
 fn put_brackets_at(out: &mut [u8], at: usize, dims: usize) -> usize
     ensures { Written at (bracket_pairs dims) out.old result out.new }
 {
-    let from = text::shorter(at, out.len());
+    let from = at.min(out.len());
     let n = put_brackets(&mut out[from..], dims);
-    text::sum(at, n)
+    at.saturating_add(n)
 }
 
 // Writes a type from a place on. Answers the place after it.

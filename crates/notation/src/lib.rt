@@ -18,7 +18,7 @@ use items::part_at;
 use std::io::Read;
 use std::rt::Files;
 use std::{fs, io};
-use text::{put_at, put_decimal_at, sum};
+use text::{put_at, put_decimal_at};
 
 // What a field is read as: a number, or how many bytes were read.
 #[derive(Clone, Copy)]
@@ -61,7 +61,7 @@ pub fn part_to<'a>(text: &'a [u8], at: usize, byte: u8) -> &'a [u8]
 pub fn after(at: usize, part: &[u8]) -> usize
     ensures { result ≡ behind at part.now }
 {
-    sum(at, sum(part.len(), 1))
+    at.saturating_add(part.len().saturating_add(1))
 }
 
 // Whether a line is a row.
@@ -84,7 +84,7 @@ fn fields<'a>(row: &'a [u8]) -> &'a [u8] {
 
 // The answer behind the arrow and a space, nothing where the row has none.
 fn answer<'a>(row: &'a [u8]) -> &'a [u8] {
-    part_at(row, sum(fields(row).len(), 3), row.len())
+    part_at(row, fields(row).len().saturating_add(3), row.len())
 }
 
 // The kind of a row.
@@ -310,7 +310,7 @@ fn read_fields(
     let mut i = 0;
     while i < shape.len() {
         let letter = shape[i];
-        let field = part_to(fields, sum(bar, 1), b'|');
+        let field = part_to(fields, bar.saturating_add(1), b'|');
         let Value::Of(n) = read_field(rt, letter, field, x, y)? else {
             return Ok(false);
         };

@@ -3,39 +3,16 @@
 // output's end on.
 #![tactic(auto)]
 
-ghost use Rattle.std.specs.Prelude.{◌≡◌, [], ◌∷◌, ◌+◌, min, ◌<◌, length};
+ghost use Rattle.std.specs.Prelude.{◌≡◌, [], ◌∷◌, ◌+◌, ◌<◌, length};
 ghost use Rattle.text.specs.Decimal.{decimal};
-ghost use Rattle.text.specs.Writing.{most, splice, Written};
-
-// The smaller of two numbers.
-pub fn shorter(a: usize, b: usize) -> usize
-    ensures { result ≡ min a b }
-{
-    if a <= b { a } else { b }
-}
-
-// The sum of two numbers, or the greatest number where they pass it.
-pub fn sum(a: usize, b: usize) -> usize
-    ensures { result ≡ min (a + b) most }
-{
-    let room = 0xffff_ffff_ffff_ffff - a;
-    if b <= room {
-        a + b
-    } else {
-        0xffff_ffff_ffff_ffff
-    }
-}
+ghost use Rattle.text.specs.Writing.{splice, Written};
 
 // Writes a part over the start of the output. Answers its length.
 pub fn put(out: &mut [u8], part: &[u8]) -> usize
     ensures { Written 0 part.now out.old result out.new }
 {
-    let room = shorter(part.len(), out.len());
-    let mut i = 0;
-    while i < room {
-        out[i] = part[i];
-        i += 1;
-    }
+    let room = part.len().min(out.len());
+    out[..room].copy_from_slice(&part[..room]);
     part.len()
 }
 
@@ -43,9 +20,9 @@ pub fn put(out: &mut [u8], part: &[u8]) -> usize
 pub fn put_at(out: &mut [u8], at: usize, part: &[u8]) -> usize
     ensures { Written at part.now out.old result out.new }
 {
-    let from = shorter(at, out.len());
+    let from = at.min(out.len());
     let n = put(&mut out[from..], part);
-    sum(at, n)
+    at.saturating_add(n)
 }
 
 // How many digits a number has.
@@ -95,7 +72,7 @@ pub fn put_decimal(out: &mut [u8], n: usize) -> usize
 pub fn put_decimal_at(out: &mut [u8], at: usize, n: usize) -> usize
     ensures { Written at (decimal n) out.old result out.new }
 {
-    let from = shorter(at, out.len());
+    let from = at.min(out.len());
     let digits = put_decimal(&mut out[from..], n);
-    sum(at, digits)
+    at.saturating_add(digits)
 }

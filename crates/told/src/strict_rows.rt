@@ -3,7 +3,7 @@ use crate::{Told, nothing, told, told_with};
 use items::part_at;
 use notation::first_numbers;
 use refusal::Refusal;
-use text::{put_at, put_decimal_at, sum};
+use text::{put_at, put_decimal_at};
 
 const LETTERS: [u8; 8] = *b"()[;ILVa";
 
@@ -113,7 +113,7 @@ fn digest(beginning: &[u8], letters: usize, count: usize) -> Told {
     let size = put_at(&mut text, 0, beginning);
     told(
         0,
-        stirred(&mut text, size, sum(size, letters), count) as usize,
+        stirred(&mut text, size, size.saturating_add(letters), count) as usize,
         0,
         0,
     )

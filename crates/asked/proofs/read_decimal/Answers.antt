@@ -30,7 +30,7 @@ pub loop-i-preserved : goal.loop-i-preserved
 loop-i-preserved c =
     let text = c.args.text.now in
     let small = rw c.digit_of-digit.ensures at c.if-digit-gt9.false in
-    rw (c.shorter-value.ensures, c.digit_of-digit.ensures)
+    rw (c.min-value.ensures, c.digit_of-digit.ensures)
     (one_digit text c.loop-i.value c.loop-i.i c.loop-i.invariant c.loop-i-test.true small)
 
 pub returns : goal.returns

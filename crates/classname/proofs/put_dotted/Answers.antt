@@ -3,7 +3,7 @@
 use Prim.Native.Nat.{◌<◌}
 use native.Mathlib.Omega.{arith}
 use mathlib.Core.Path.{◌≡◌, refl, ◌∙◌, sym}
-use lib.ListN.{length, get_or, length-set}
+use lib.ListN.{length, get_or}
 use Rattle.classname.specs.ClassName.{dotted}
 use Rattle.text.specs.Writing.{over}
 use Rattle.classname.proofs.Bytewise.{dotted_length, dotted_at}
@@ -12,39 +12,20 @@ use Rattle.classname.proofs.put_dotted.Goals as goal
 
 pub loop-i-init : goal.loop-i-init
 unfolding over
-loop-i-init c = (omega arith, refl, refl)
-
-pub bounds-name-i : goal.bounds-name-i
-bounds-name-i c = omega (arith, c.shorter-room.ensures)
-
-pub bounds-out-i : goal.bounds-out-i
-bounds-out-i c = omega (arith, c.shorter-room.ensures, c.loop-i.invariant.2)
-
-pub overflow_add-i : goal.overflow_add-i
-overflow_add-i c = omega arith
-
-pub loop-i-smaller : goal.loop-i-smaller
-loop-i-smaller c = omega arith
+loop-i-init c = refl
 
 pub loop-i-preserved : goal.loop-i-preserved
 loop-i-preserved c =
     let l = c.loop-i in
     let a = c.args in
-    let inside : l.i < length (dotted a.name.now) = omega (arith, c.shorter-room.ensures, dotted_length a.name.now) in
-    let fits : l.i < length a.out.now = omega (arith, c.shorter-room.ensures) in
-    let byte : c.dot.result ≡ get_or (dotted a.name.now) l.i 0 = c.dot.ensures ∙ sym (dotted_at a.name.now l.i) in (
-      omega arith,
-      rw (byte, l.invariant.1, one_byte_more (dotted a.name.now) a.out.now l.i inside fits),
-      rw length-set l.invariant.2,
-    )
-
-pub shape_of-out : goal.shape_of-out
-shape_of-out c = c.loop-i.invariant.2
+    let inside : l.i < length (dotted a.name.now) = omega (arith, dotted_length a.name.now) in
+    let fits : l.i < length a.out.now = omega arith in
+    let byte : c.dot.result ≡ get_or (dotted a.name.now) l.i 0 = c.dot.ensures ∙ sym (dotted_at a.name.now l.i) in
+    rw (byte, l.invariant, one_byte_more (dotted a.name.now) a.out.now l.i inside fits)
 
 pub returns : goal.returns
 returns c =
     let l = c.loop-i in
     let a = c.args in
     let long = dotted_length a.name.now in
-    written_by_bytes (dotted a.name.now) a.out.now l.out l.i (length a.name.now)
-    (omega (arith, c.shorter-room.ensures)) (omega arith) l.invariant.1
+    written_by_bytes (dotted a.name.now) a.out.now l.out l.i (length a.name.now) (omega arith) (omega arith) l.invariant

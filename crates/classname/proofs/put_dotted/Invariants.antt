@@ -1,14 +1,10 @@
 -- `classname::put_dotted` meets its contract. The loop's invariant: so many bytes of the dotted name are written.
 -- Assumes nothing.
-use Prim.Native.Nat.{◌-◌, ◌≤◌}
 use mathlib.Core.Path.{◌≡◌}
-use lib.ListN.{length, take}
+use lib.ListN.{take}
 use Rattle.classname.specs.ClassName.{dotted}
 use Rattle.text.specs.Writing.{over}
 use Rattle.classname.proofs.put_dotted.Given as goal
 
 abbrev pub invariant-loop-i : goal.invariant-loop-i
-invariant-loop-i l = (l.i ≤ l.room) × (l.out ≡ over (take l.i (dotted l.name)) l.initial.out) × (length l.out ≡ length l.initial.out)
-
-abbrev pub decreases-loop-i : goal.decreases-loop-i
-decreases-loop-i l = l.room - l.i
+invariant-loop-i l = l.out ≡ over (take l.i (dotted l.name)) l.initial.out

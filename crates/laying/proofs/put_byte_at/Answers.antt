@@ -1,12 +1,10 @@
 -- `laying::put_byte_at` meets its contract. A case on whether the output reaches the place.
 -- Assumes nothing.
-use Prim.Native.Nat.{ℕ}
 use native.Mathlib.Omega.{arith}
-use mathlib.Core.Path.{◌≡◌, ◌∙◌, sym, ap}
+use mathlib.Core.Path.{◌≡◌, ◌∙◌, sym}
 use mathlib.Core.List.{[], ◌∷◌}
-use lib.ListN.{length}
 use Rattle.text.specs.Writing.{splice, following}
-use Rattle.text.proofs.Writing.{splice_length, nothing_past, stored_one}
+use Rattle.text.proofs.Writing.{nothing_past, stored_one}
 use Rattle.laying.proofs.put_byte_at.Goals as goal
 use Rattle.laying.proofs.put_byte_at.Goals.{Joined-at-out, then-at-out, else-at-out}
 
@@ -22,11 +20,6 @@ in_place c =
       | else-at-out w ↦ w.out-is ∙ sym (nothing_past a.at (a.byte ∷ []) a.out.now (omega (arith, w.if-at-out.false)))
     ]
 
-pub shape_of-out : goal.shape_of-out
-shape_of-out c =
-    let a = c.args in
-    ap (length {A = ℕ}) (in_place (goal.at.shape_of-out c).Joined-at-out) ∙ splice_length a.at (a.byte ∷ []) a.out.now
-
 pub returns : goal.returns
 unfolding following
-returns c = record { place = omega (arith, c.sum.ensures); bytes = in_place (goal.at.returns c).Joined-at-out }
+returns c = record { place = omega (arith, c.saturating_add.ensures); bytes = in_place (goal.at.returns c).Joined-at-out }

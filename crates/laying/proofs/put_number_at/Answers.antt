@@ -2,23 +2,11 @@
 -- the number.
 -- Assumes nothing.
 use native.Mathlib.Omega.{arith}
-use mathlib.Core.Path.{refl, ◌∙◌}
+use mathlib.Core.Path.{◌∙◌}
 use Rattle.text.proofs.Writing.{written_length}
 use Rattle.cases.proofs.Groups.{number_small}
 use Rattle.laying.proofs.Groups.{low_group_written}
 use Rattle.laying.proofs.put_number_at.Goals as goal
-
-pub loop-left-init : goal.loop-left-init
-loop-left-init c = (λ end after is. is, refl)
-
-pub overflow_add-left : goal.overflow_add-left
-overflow_add-left c = omega arith
-
-pub overflow_cast-left : goal.overflow_cast-left
-overflow_cast-left c = omega arith
-
-pub loop-left-smaller : goal.loop-left-smaller
-loop-left-smaller c = omega arith
 
 pub loop-left-preserved : goal.loop-left-preserved
 loop-left-preserved c =
@@ -27,12 +15,6 @@ loop-left-preserved c =
       λ end after is. l.invariant.0 end after (low_group_written put.ensures is (omega arith) (omega arith) (omega arith) (omega arith)),
       written_length put.ensures ∙ l.invariant.1,
     )
-
-pub overflow_cast-left-2 : goal.overflow_cast-left-2
-overflow_cast-left-2 c = omega arith
-
-pub shape_of-out : goal.shape_of-out
-shape_of-out c = written_length c.put_byte_at.ensures ∙ c.loop-left.invariant.1
 
 pub returns : goal.returns
 returns c =

@@ -4,7 +4,6 @@ use Rattle.std.specs.Prelude.{Option, Some}
 use Prim.Native.Nat.{ℕ, ◌<◌}
 use native.Mathlib.Omega.{arith}
 use mathlib.Core.Path.{◌≡◌, ◌∙◌, sym, subst}
-use lib.Seq.{length-take-le}
 use Rattle.basics.specs.Ascii.{ascii}
 use Rattle.fieldtype.specs.Search.{first_from, found_inside}
 use Rattle.names.specs.Names.{base_name}
@@ -27,9 +26,6 @@ below-eight c =
 
 pub base_row-row-requires : goal.base_row-row-requires
 base_row-row-requires c = below-eight (goal.at.base_row-row-requires c).In-Some
-
-pub slice_bounds-put-end : goal.slice_bounds-put-end
-slice_bounds-put-end c = let r = c.base_row-row in sym (length-take-le r.result.len r.result.bytes (omega (arith, r.ensures)))
 
 pub returns : goal.returns
 unfolding base_name

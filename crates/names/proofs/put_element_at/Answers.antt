@@ -8,5 +8,5 @@ pub returns : goal.returns
 returns c =
     let a = c.args in
     let p = c.put_element-n in
-    written_from a.at c.shorter-from.result p.result c.sum.result (element_name a.descriptor.now a.t) a.out.now
-    p.new.out c.shorter-from.ensures c.sum.ensures p.ensures
+    written_from a.at c.min-from.result p.result c.saturating_add.result (element_name a.descriptor.now a.t) a.out.now
+    p.new.out c.min-from.ensures c.saturating_add.ensures p.ensures

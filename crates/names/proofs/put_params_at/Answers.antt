@@ -15,20 +15,11 @@ use Rattle.names.proofs.put_params_at.Goals.{In-Some}
 pub loop-index-init : goal.loop-index-init
 loop-index-init c = (at_first c.args.descriptor.now c.args.at c.args.out.now (omega arith), omega arith, refl)
 
-pub bounds-descriptor-index : goal.bounds-descriptor-index
-bounds-descriptor-index c = omega arith
-
-pub shape_of-out-then-descriptor-index-eq41 : goal.shape_of-out-then-descriptor-index-eq41
-shape_of-out-then-descriptor-index-eq41 c = c.loop-index.invariant.2
-
 pub returns-then-descriptor-index-eq41 : goal.returns-then-descriptor-index-eq41
 returns-then-descriptor-index-eq41 c =
     let a = c.args in
     let l = c.loop-index in
     over_now l.invariant.0 l.index (list_closed a.descriptor.now l.index c.loop-index-test.true c.if-descriptor-index-eq41.true)
-
-pub shape_of-out-in_default : goal.shape_of-out-in_default
-shape_of-out-in_default c = c.loop-index.invariant.2
 
 pub returns-in_default : goal.returns-in_default
 returns-in_default c =
@@ -70,9 +61,6 @@ loop-index-preserved c =
       omega (arith, is.onward),
       written_length p.ensures ∙ l.invariant.2,
     )
-
-pub shape_of-out : goal.shape_of-out
-shape_of-out c = c.loop-index.invariant.2
 
 pub returns : goal.returns
 returns c =

@@ -6,14 +6,8 @@ use lib.ListN.{length}
 use Rattle.text.proofs.Decimal.{one_digit, one_more, decimal_short}
 use Rattle.text.proofs.digit_count.Goals as goal
 
-pub loop-left-init : goal.loop-left-init
-loop-left-init c = omega arith
-
 pub overflow_add-count : goal.overflow_add-count
 overflow_add-count c = omega (arith, decimal_short c.args.n)
-
-pub loop-left-smaller : goal.loop-left-smaller
-loop-left-smaller c = omega arith
 
 pub loop-left-preserved : goal.loop-left-preserved
 loop-left-preserved c =

@@ -3,13 +3,13 @@
 -- Assumes nothing.
 use Prim.Native.Nat.{ℕ, ◌+◌, ◌-◌, ◌/◌, ◌%◌}
 use native.Mathlib.Omega.{arith}
-use mathlib.Core.Path.{◌≡◌, refl, ◌∙◌, sym, ap}
+use mathlib.Core.Path.{◌≡◌, ◌∙◌, sym, ap}
 use mathlib.Core.List.{List, [], ◌∷◌}
 use lib.ListN.{length}
 use Rattle.text.specs.Decimal.{decimal}
 use Rattle.text.specs.Writing.{over, splice, following}
 use Rattle.text.proofs.Decimal.{one_digit, one_more, decimal_short, last_written}
-use Rattle.text.proofs.Writing.{over_length, nothing_past}
+use Rattle.text.proofs.Writing.{nothing_past}
 use Rattle.text.proofs.put_decimal.Goals as goal
 
 -- so many digits end at the place that follows them
@@ -25,17 +25,8 @@ returns-then-out-eq0 c =
       bytes = sym (nothing_past 0 (decimal a.n) a.out.now (omega arith));
     }
 
-pub loop-left-init : goal.loop-left-init
-loop-left-init c = (refl, c.digit_count-count.ensures, omega arith)
-
 pub overflow_sub-at : goal.overflow_sub-at
 overflow_sub-at c = omega (arith, one_more c.loop-left.left c.loop-left-test.true (omega arith))
-
-pub put_digit_at-requires : goal.put_digit_at-requires
-put_digit_at-requires c = omega arith
-
-pub loop-left-smaller : goal.loop-left-smaller
-loop-left-smaller c = omega arith
 
 pub loop-left-preserved : goal.loop-left-preserved
 loop-left-preserved c =
@@ -49,9 +40,6 @@ loop-left-preserved c =
       omega arith,
     )
 
-pub put_digit_at-requires-2 : goal.put_digit_at-requires-2
-put_digit_at-requires-2 c = omega arith
-
 -- with the first digit all are written
 all-written :
     (c : goal.After-slice_known-2-1) →
@@ -63,11 +51,6 @@ all-written c =
     c.put_digit_at-2.ensures
     ∙ ap (λ (text : List ℕ). over text l.out) (sym (one_digit l.left (omega arith)))
     ∙ l.invariant.0
-
-pub shape_of-out : goal.shape_of-out
-shape_of-out c =
-    let a = c.args in
-    ap length (all-written c) ∙ over_length (decimal a.n) a.out.now
 
 pub returns : goal.returns
 unfolding splice

@@ -1,5 +1,6 @@
 -- `text::put_decimal_at` meets its contract. What remains of the output is lent, and comes back.
 -- Assumes nothing.
+use native.Mathlib.Omega.{arith}
 use Rattle.text.specs.Decimal.{decimal}
 use Rattle.text.proofs.Writing.{written_from}
 use Rattle.text.proofs.put_decimal_at.Goals as goal
@@ -8,6 +9,4 @@ pub returns : goal.returns
 returns c =
     let a = c.args in
     let p = c.put_decimal-digits in
-    let from = c.shorter-from in
-    written_from a.at from.result p.result c.sum.result (decimal a.n) a.out.now p.new.out from.ensures
-    c.sum.ensures p.ensures
+    written_from a.at c.min-from.result p.result _ (decimal a.n) a.out.now p.new.out (omega arith) (omega arith) p.ensures
