@@ -25,23 +25,26 @@ pub enum Refusal {
 }
 
 // The number that document 01 gives to a refusal.
-pub fn number_of(refusal: Refusal) -> u64
-    ensures { result ≡ number_of refusal }
-{
-    match refusal {
-        Refusal::UnexpectedEnd => 1,
-        Refusal::TooManyDimensions => 2,
-        Refusal::LoneClose => 3,
-        Refusal::TrailingAfterType => 4,
-        Refusal::EmptyClassName => 5,
-        Refusal::MissingSemicolon => 6,
-        Refusal::CloseAfterBracket => 7,
-        Refusal::ArrayOfVoid => 8,
-        Refusal::Unrecognised => 9,
-        Refusal::MissingOpening => 10,
-        Refusal::VoidParameter => 11,
-        Refusal::MissingReturn => 12,
-        Refusal::TrailingAfterMethod => 13,
-        Refusal::NoRoom => 14,
+impl From<Refusal> for u64 {
+    ghost from_gives = { λ refusal number. number ≡ number_of refusal };
+
+    #[tactic(auto, unfolding(crate::specs::Refusal::number_of))]
+    fn from(refusal: Refusal) -> u64 {
+        match refusal {
+            Refusal::UnexpectedEnd => 1,
+            Refusal::TooManyDimensions => 2,
+            Refusal::LoneClose => 3,
+            Refusal::TrailingAfterType => 4,
+            Refusal::EmptyClassName => 5,
+            Refusal::MissingSemicolon => 6,
+            Refusal::CloseAfterBracket => 7,
+            Refusal::ArrayOfVoid => 8,
+            Refusal::Unrecognised => 9,
+            Refusal::MissingOpening => 10,
+            Refusal::VoidParameter => 11,
+            Refusal::MissingReturn => 12,
+            Refusal::TrailingAfterMethod => 13,
+            Refusal::NoRoom => 14,
+        }
     }
 }

@@ -212,6 +212,7 @@ pub fn walk_numbers(walk: Walk) -> KorsepalWalk
 }
 
 // The numbers of a strict reader's answer.
+#[tactic(auto, unfolding(judging::specs::Judged::numbered))]
 pub fn strict_numbers(answer: Result<usize, Refusal>) -> KorsepalTypes
     ensures { result ≡ strict_numbers answer }
 {
@@ -221,7 +222,7 @@ pub fn strict_numbers(answer: Result<usize, Refusal>) -> KorsepalTypes
             count: count as u64,
         },
         Err(refusal) => KorsepalTypes {
-            refusal: low_bits(refusal::number_of(refusal) as usize),
+            refusal: low_bits(u64::from(refusal) as usize),
             count: 0,
         },
     }

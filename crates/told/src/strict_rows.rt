@@ -33,7 +33,7 @@ fn parsed(out: &mut [u8], method: bool, text: &[u8], numbers: &mut [u64]) -> Tol
     let end = put_numbers(out, numbers);
     match answer {
         Ok(count) => told_with(end, 0, count, 0, 0),
-        Err(r) => told_with(end, 1, refusal::number_of(r) as usize, 0, 0),
+        Err(r) => told_with(end, 1, u64::from(r) as usize, 0, 0),
     }
 }
 
@@ -51,7 +51,7 @@ fn text(out: &mut [u8], method: bool, text: &[u8], room: usize) -> Told {
 fn number_of(answer: Result<usize, Refusal>) -> u64 {
     match answer {
         Ok(count) => 15 + count as u64 % 1000,
-        Err(r) => refusal::number_of(r),
+        Err(r) => u64::from(r),
     }
 }
 
