@@ -1,6 +1,6 @@
 -- Texts that are taken from a run of bytes are no longer than the run; the names of locals that their numbers make up are short.
 -- Assumes nothing.
-use Rattle.std.specs.Prelude.{Option, Some, None}
+use Rattle.std.specs.Prelude.{Option, Some, None, Result, Ok, Err}
 use Prim.Native.Nat.{ℕ, zero, suc, ◌+◌, ◌-◌, ◌≤◌}
 use native.Mathlib.Omega.{arith}
 use mathlib.Core.Bool.{Bool, true}
@@ -14,9 +14,8 @@ use Rattle.basics.proofs.Every.{both_first, both_second}
 use Rattle.items.specs.Text.{text_at, then_text, text_part}
 use Rattle.tables.specs.LocalRecord.{records_in}
 use Rattle.tables.specs.Member.{member_at, then_member}
+use Rattle.tables.specs.declared.MemberPlace.{MemberPlace}
 use Rattle.lookup.specs.Lookup.{texts_of, member_found}
-use Rattle.tables.specs.declared.Member.{Member}
-use Rattle.tables.specs.declared.Member.TheVariants.{Read, Wrong}
 use Rattle.search.specs.Search.{first_match}
 use Rattle.locals.specs.Name.{signature_parameter, numbered_name, parameter_name, unnamed, name_by, local_name}
 use Rattle.search.specs.declared.NamePlace.{NamePlace}
@@ -65,20 +64,20 @@ found_within bytes index kind (suc count) last at =
     of (member_at bytes last at) (λ before next. found_within bytes index kind count before next)
   where
     of :
-        (m : Member) → ((before next : ℕ) → Within (length bytes) (member_found bytes index kind count before next)) →
+        (m : Result MemberPlace ℕ) → ((before next : ℕ) → Within (length bytes) (member_found bytes index kind count before next)) →
         Within (length bytes)
         (then_member m (λ place. []) (λ place.
         pick (eqb place.index index)
         (pick (eqb place.kind kind) (texts_of bytes place) [])
         (member_found bytes index kind count place.index place.next)))
-    of (Read place) rest =
+    of (Ok place) rest =
         chosen (Within (length bytes)) (eqb place.index index)
         (pick (eqb place.kind kind) (texts_of bytes place) [])
         (member_found bytes index kind count place.index place.next)
         (chosen (Within (length bytes)) (eqb place.kind kind) (texts_of bytes place) []
         (part_within (place.next - place.texts) place.texts bytes) (none_within (length bytes)))
         (rest place.index place.next)
-    of (Wrong place) rest = none_within (length bytes)
+    of (Err place) rest = none_within (length bytes)
 
 -- ---- the name of a local
 

@@ -18,10 +18,8 @@ use Rattle.items.specs.Text.{text_at, then_text}
 use Rattle.tables.specs.Layout.{Layout, number, sized, may_end, ended, any, members_then, records_then, tables_then, case_layout, run_by, then_run}
 use Rattle.tables.specs.Member.{member_at, then_member}
 use Rattle.tables.specs.LocalRecord.{record_at, then_record}
-use Rattle.tables.specs.declared.LocalRecord.{LocalRecord}
-use Rattle.tables.specs.declared.LocalRecord.TheVariants as local
-use Rattle.tables.specs.declared.Member.{Member}
-use Rattle.tables.specs.declared.Member.TheVariants as member
+use Rattle.tables.specs.declared.RecordPlace.{RecordPlace}
+use Rattle.tables.specs.declared.MemberPlace.{MemberPlace}
 use Rattle.tables.proofs.Runs.{member-then, record-then}
 use Rattle.casefile.specs.Whole.{tables_at, then_tables, places_in, longest, case_of}
 use Rattle.casefile.specs.declared.Case.{Case}
@@ -149,7 +147,7 @@ members-then (suc count) last following bytes at =
     onward end = run_by following bytes end
 
     of :
-        (m : Member) →
+        (m : Result MemberPlace ℕ) →
         ((index next : ℕ) →
         run_by (members_then count index following) bytes next
         ≡ then_run (run_by (members_then count index ended) bytes next) (λ wrong. Err wrong) onward) →
@@ -157,8 +155,8 @@ members-then (suc count) last following bytes at =
         ≡ then_run
         (then_member m (λ wrong. Err wrong) (λ place. run_by (members_then count place.index ended) bytes place.next))
         (λ wrong. Err wrong) onward
-    of (member.Read place) rest = rest place.index place.next
-    of (member.Wrong place) rest = refl
+    of (Ok place) rest = rest place.index place.next
+    of (Err place) rest = refl
 
 -- records and what follows them
 pub records-then :
@@ -177,15 +175,15 @@ records-then (suc count) following bytes at =
     onward end = run_by following bytes end
 
     of :
-        (r : LocalRecord) →
+        (r : Result RecordPlace ℕ) →
         ((next : ℕ) →
         run_by (records_then count following) bytes next
         ≡ then_run (run_by (records_then count ended) bytes next) (λ wrong. Err wrong) onward) →
         then_record r (λ wrong. Err wrong) (λ place. run_by (records_then count following) bytes place.next)
         ≡ then_run (then_record r (λ wrong. Err wrong) (λ place. run_by (records_then count ended) bytes place.next))
         (λ wrong. Err wrong) onward
-    of (local.Read place) rest = rest place.next
-    of (local.Wrong place) rest = refl
+    of (Ok place) rest = rest place.next
+    of (Err place) rest = refl
 
 -- whether there is a wrong item, and where; a run is never too long
 pub data Verdict : Type 0 where

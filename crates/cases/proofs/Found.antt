@@ -1,6 +1,7 @@
 -- The lookup in a run of members finds the part of the only member with the index.
 -- Rests on: what stands is read (Reading, Items).
 -- Assumes nothing.
+use Rattle.std.specs.Prelude.{Ok}
 use Prim.Native.Nat.{ℕ, zero, suc, ◌+◌, ◌-◌, ◌≤◌, ◌<◌}
 use native.Mathlib.Omega.{arith}
 use native.Mathlib.Nat.{add-sub_cancel_left}
@@ -18,7 +19,6 @@ use Rattle.items.specs.Text.{text_bytes, text_part, after_text, class_of, name_o
 use Rattle.tables.specs.Layout.{ended, run_by}
 use Rattle.tables.specs.Member.{member_at}
 use Rattle.lookup.specs.Lookup.{member_found}
-use Rattle.tables.specs.declared.Member.TheVariants.{Read}
 use Rattle.cases.specs.LaidOut.{Member, texts_bytes, member_bytes, members_bytes, RightMember, RightMembers, more}
 use Rattle.cases.specs.Lookup.{◌among◌, found_in, LookupDeclared}
 use Rattle.cases.specs.Standing.{Stands}
@@ -40,7 +40,7 @@ module _ (bytes : List ℕ) (at : ℕ) (m : Member) where
   member_reads :
       (last : ℕ) → last < m.index → RightMember m → Stands bytes at (member_bytes m) →
       member_at bytes last at
-      ≡ Read (record { index = m.index; kind = m.kind; texts = texts_at; next = texts_at + length (texts_bytes m) })
+      ≡ Ok (record { index = m.index; kind = m.kind; texts = texts_at; next = texts_at + length (texts_bytes m) })
   unfolding member_at member_bytes run_by
   member_reads last above right stands =
       let index = number_bytes m.index in

@@ -1,6 +1,7 @@
 -- Going from each local record of a run to the next lists exactly the records of the run.
 -- Rests on: what stands is read (Reading).
 -- Assumes nothing.
+use Rattle.std.specs.Prelude.{Ok}
 use Prim.Native.Nat.{ℕ, ◌+◌}
 use native.Mathlib.Omega.{arith}
 use mathlib.Core.Path.{◌≡◌, refl, sym, ap₂, subst}
@@ -9,7 +10,6 @@ use lib.ListN.{length, length-append}
 use Rattle.number.specs.Number.{greatest, number_bytes}
 use Rattle.items.specs.Text.{text_bytes}
 use Rattle.tables.specs.LocalRecord.{record_at, records_in}
-use Rattle.tables.specs.declared.LocalRecord.TheVariants.{Read}
 use Rattle.tables.specs.declared.RecordPlace.{RecordPlace}
 use Rattle.cases.specs.LaidOut.{Local, record_bytes, records_bytes, RightLocal, RightLocals}
 use Rattle.cases.specs.LaidOut as laid
@@ -56,7 +56,7 @@ module _ (bytes : List ℕ) (at : ℕ) (r : Local) where
   name_stands stands = second_stands bytes slot_at (number_bytes r.slot) (text_bytes r.name) (slot_stands stands)
 
   -- a record that stands is read
-  record_reads : RightLocal r → Stands bytes at (record_bytes r) → record_at bytes at ≡ Read place_of
+  record_reads : RightLocal r → Stands bytes at (record_bytes r) → record_at bytes at ≡ Ok place_of
   unfolding record_at record_bytes
   record_reads right stands =
       rw (

@@ -1,5 +1,6 @@
 -- Behind the members of earlier buckets a lookup finds what it finds before them.
 -- Assumes nothing.
+use Rattle.std.specs.Prelude.{Result, Ok, Err}
 use Prim.Native.Nat.{ℕ, zero, suc, ◌-◌, ◌≤◌, ◌<◌}
 use native.Mathlib.Omega.{arith}
 use native.Mathlib.Nat.{not-suc-le-zero}
@@ -12,8 +13,6 @@ use borrow.Author.Tests.{ne_eqb, lt-leb, leb-false}
 use Rattle.basics.specs.Choice.{pick}
 use Rattle.tables.specs.Member.{member_at, then_member}
 use Rattle.lookup.specs.Lookup.{member_found}
-use Rattle.tables.specs.declared.Member.{Member}
-use Rattle.tables.specs.declared.Member.TheVariants.{Read, Wrong}
 use Rattle.tables.specs.declared.MemberPlace.{MemberPlace}
 use Rattle.index.specs.Index.{bucket_of, skipped, found_in}
 use Rattle.index.specs.declared.Rest.{Rest}
@@ -37,7 +36,7 @@ skipped_turn bytes bucket (suc left) last at some = simp sub-one
 
 -- a member of an earlier bucket is skipped
 skipped_past :
-    (bytes : List ℕ) (bucket left last at : ℕ) (place : MemberPlace) → member_at bytes last at ≡ Read place →
+    (bytes : List ℕ) (bucket left last at : ℕ) (place : MemberPlace) → member_at bytes last at ≡ Ok place →
     bucket_of place.index < bucket →
     skipped bytes bucket (suc left) last at ≡ skipped bytes bucket left place.index place.next
 unfolding skipped
@@ -47,19 +46,19 @@ skipped_past bytes bucket left last at place e earlier = rw (e, lt-leb bucket (b
 skipped_cases :
     {A : Type 0} (bytes : List ℕ) (bucket left last at : ℕ) →
     (skipped bytes bucket (suc left) last at ≡ rest at last (suc left) → A) →
-    ((place : MemberPlace) → member_at bytes last at ≡ Read place → bucket_of place.index < bucket → A) → A
+    ((place : MemberPlace) → member_at bytes last at ≡ Ok place → bucket_of place.index < bucket → A) → A
 unfolding skipped
 skipped_cases {A = A} bytes bucket left last at stays goes = by_member (member_at bytes last at) refl
   where
     by_test :
-        (place : MemberPlace) → member_at bytes last at ≡ Read place →
+        (place : MemberPlace) → member_at bytes last at ≡ Ok place →
         (t : Bool) → leb bucket (bucket_of place.index) ≡ t → A
     by_test place e true t = stays (rw (e, t))
     by_test place e false t = goes place e (leb-false bucket (bucket_of place.index) t)
 
-    by_member : (m : Member) → member_at bytes last at ≡ m → A
-    by_member (Read place) e = by_test place e (leb bucket (bucket_of place.index)) refl
-    by_member (Wrong place) e = stays (rw e)
+    by_member : (m : Result MemberPlace ℕ) → member_at bytes last at ≡ m → A
+    by_member (Ok place) e = by_test place e (leb bucket (bucket_of place.index)) refl
+    by_member (Err place) e = stays (rw e)
 
 -- skipping to a bucket, then to a later one
 pub skipped_on :

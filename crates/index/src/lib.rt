@@ -7,8 +7,6 @@ ghost use Rattle.std.specs.Prelude.{◌≡◌};
 ghost use Rattle.lookup.specs.Lookup.{member_found};
 ghost use Rattle.index.specs.Index.{skipped, Tabled, Indexed, found_by};
 
-use tables::Member;
-
 // How many pool indexes share a bucket.
 const WIDTH: usize = 64;
 
@@ -28,7 +26,7 @@ fn skip_to(members: &[u8], from: usize, above: usize, count: usize, bucket: usiz
     let mut last = above;
     let mut left = count;
     while 0 < left {
-        let Member::Read(member) = tables::read_member(members, at, last) else {
+        let Ok(member) = tables::read_member(members, at, last) else {
             return Rest { at, last, left };
         };
         if bucket <= member.index / WIDTH {

@@ -4,7 +4,7 @@
 ghost use Rattle.std.specs.Prelude.{◌≡◌};
 ghost use Rattle.lookup.specs.Lookup.{member_found};
 
-use tables::{Member, read_member};
+use tables::read_member;
 
 // The part of a member run that holds the three texts of the member with a pool index and kind, among so many members from
 // a place on, whose indexes are above another. It is empty where there is no such member: a member of the other kind at the
@@ -23,7 +23,7 @@ pub fn find_from<'a>(
     let mut last = above;
     let mut left = count;
     while 0 < left {
-        let Member::Read(member) = read_member(members, at, last) else {
+        let Ok(member) = read_member(members, at, last) else {
             return &members[..0];
         };
         if member.index == index {

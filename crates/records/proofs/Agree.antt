@@ -1,5 +1,6 @@
 -- The search over a lent run and the search over a case's bytes find the same name.
 -- Assumes nothing.
+use Rattle.std.specs.Prelude.{Result, Ok, Err}
 use Prim.Native.Nat.{ℕ, zero, suc, ◌≤◌, zero-le}
 use native.Mathlib.Nat.{le_trans}
 use native.Mathlib.Omega.{arith}
@@ -8,8 +9,6 @@ use mathlib.Core.Path.{◌∙◌, ap}
 use lib.ListN.{length}
 use lib.Seq.{take_all}
 use Rattle.tables.specs.LocalRecord.{record_at, records_in, then_record}
-use Rattle.tables.specs.declared.LocalRecord.{LocalRecord}
-use Rattle.tables.specs.declared.LocalRecord.TheVariants.{Read, Wrong}
 use Rattle.tables.specs.declared.RecordPlace.{RecordPlace}
 use Rattle.search.specs.Search.{first_match}
 use Rattle.records.specs.Agree.{SearchesAgree}
@@ -17,10 +16,10 @@ use Rattle.records.proofs.Eights.{run_match}
 
 module _ (bytes : List ℕ) where
   by_record :
-      (count : ℕ) (r : LocalRecord) → ((next : ℕ) → length (records_in bytes count next) ≤ count) →
+      (count : ℕ) (r : Result RecordPlace ℕ) → ((next : ℕ) → length (records_in bytes count next) ≤ count) →
       length (then_record r (λ place. []) (λ place. place ∷ records_in bytes count place.next)) ≤ suc count
-  by_record count (Read p) rest = omega (arith, rest p.next)
-  by_record count (Wrong place) rest = zero-le
+  by_record count (Ok p) rest = omega (arith, rest p.next)
+  by_record count (Err place) rest = zero-le
 
   -- there are at most as many records as are asked for
   at_most : (count at : ℕ) → length (records_in bytes count at) ≤ count

@@ -1,5 +1,6 @@
 -- A search over the records of a case, so many at a time.
 -- Assumes nothing.
+use Rattle.std.specs.Prelude.{Result, Ok, Err}
 use Prim.Native.Nat.{ℕ, zero, suc, ◌-◌, zero-le}
 use native.Mathlib.Omega.{arith}
 use mathlib.Core.Bool.{Bool, true, false}
@@ -10,8 +11,6 @@ use lib.Dec.{eqb, leb}
 use borrow.Author.Tests.{le-ltb}
 use Rattle.basics.specs.Choice.{pick, both}
 use Rattle.tables.specs.LocalRecord.{record_at, records_in, record_within, then_record}
-use Rattle.tables.specs.declared.LocalRecord.{LocalRecord as Item}
-use Rattle.tables.specs.declared.LocalRecord.TheVariants.{Read, Wrong}
 use Rattle.tables.specs.declared.RecordPlace.{RecordPlace}
 use Rattle.search.specs.Search.{covers, first_match}
 use Rattle.search.specs.declared.NamePlace.{NamePlace}
@@ -74,7 +73,7 @@ module _ (bytes : List ℕ) (d : LocalRecord) where
   last_of room left at = get_or (run_of (suc room) (records_in bytes left at)) room d
 
   -- the records from one on
-  abbrev listed : ℕ → Item → List RecordPlace
+  abbrev listed : ℕ → Result RecordPlace ℕ → List RecordPlace
   listed left r = then_record r (λ place. []) (λ place. place ∷ records_in bytes left place.next)
 
   -- those that follow so many
@@ -85,19 +84,19 @@ module _ (bytes : List ℕ) (d : LocalRecord) where
   Full room left records =
       ((last_in room records).to ≡ 0 → ⊥) → records ≡ take (suc room) records ++ following left room (last_in room records)
 
-  full_one : (left : ℕ) (r : Item) → Full 0 (suc left) (listed left r)
+  full_one : (left : ℕ) (r : Result RecordPlace ℕ) → Full 0 (suc left) (listed left r)
   unfolding run_of
-  full_one left (Read p) some = ap (λ (k : ℕ). p ∷ records_in bytes k p.next) less
+  full_one left (Ok p) some = ap (λ (k : ℕ). p ∷ records_in bytes k p.next) less
     where
       less : left ≡ suc left - 1
       less = omega arith
-  full_one left (Wrong place) some = absurd (some refl)
+  full_one left (Err place) some = absurd (some refl)
 
   full_more :
-      (room left : ℕ) (r : Item) → ((next : ℕ) → Full room left (records_in bytes left next)) → Full (suc room) (suc left)
+      (room left : ℕ) (r : Result RecordPlace ℕ) → ((next : ℕ) → Full room left (records_in bytes left next)) → Full (suc room) (suc left)
       (listed left r)
   unfolding run_of
-  full_more room left (Read p) rest some =
+  full_more room left (Ok p) rest some =
       ap (λ (l : List RecordPlace). p ∷ l) (rest p.next some)
       ∙ ap
       (λ (k : ℕ). p ∷ (take (suc room) (records_in bytes left p.next) ++ records_in bytes k (last_of room left p.next).to))
@@ -105,7 +104,7 @@ module _ (bytes : List ℕ) (d : LocalRecord) where
     where
       less : left - suc room ≡ suc left - suc (suc room)
       less = omega arith
-  full_more room left (Wrong place) rest some = absurd (some (ap (λ (r : LocalRecord). r.to) (last_blank room d)))
+  full_more room left (Err place) rest some = absurd (some (ap (λ (r : LocalRecord). r.to) (last_blank room d)))
 
   -- a run whose last record is a case's: those that follow begin where it ends
   pub run_full : (room left at : ℕ) → Full room left (records_in bytes left at)
@@ -118,16 +117,16 @@ module _ (bytes : List ℕ) (d : LocalRecord) where
   abbrev Short : ℕ → List RecordPlace → Type 0
   Short room records = (last_in room records).to ≡ 0 → take (suc room) records ≡ records
 
-  short_one : (left at : ℕ) (r : Item) → record_within (length bytes) at r → Short 0 (listed left r)
+  short_one : (left at : ℕ) (r : Result RecordPlace ℕ) → record_within (length bytes) at r → Short 0 (listed left r)
   unfolding run_of
-  short_one left at (Read p) within none = absurd (omega (arith, none, within.4, within.5))
-  short_one left at (Wrong place) within none = refl
+  short_one left at (Ok p) within none = absurd (omega (arith, none, within.4, within.5))
+  short_one left at (Err place) within none = refl
 
   short_more :
-      (room left : ℕ) (r : Item) → ((next : ℕ) → Short room (records_in bytes left next)) → Short (suc room) (listed left r)
+      (room left : ℕ) (r : Result RecordPlace ℕ) → ((next : ℕ) → Short room (records_in bytes left next)) → Short (suc room) (listed left r)
   unfolding run_of
-  short_more room left (Read p) rest none = ap (λ (l : List RecordPlace). p ∷ l) (rest p.next none)
-  short_more room left (Wrong place) rest none = refl
+  short_more room left (Ok p) rest none = ap (λ (l : List RecordPlace). p ∷ l) (rest p.next none)
+  short_more room left (Err place) rest none = refl
 
   -- a run whose last record is blank: it has every record
   pub run_short : (room left at : ℕ) → Short room (records_in bytes left at)

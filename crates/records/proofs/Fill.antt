@@ -1,5 +1,6 @@
 -- A run filled from a case's bytes, one record after the other.
 -- Assumes nothing.
+use Rattle.std.specs.Prelude.{Result, Ok, Err}
 use Prim.Native.Nat.{ℕ, zero, suc, ◌-◌, ◌<◌, ◌≤◌}
 use native.Mathlib.Nat.{not-suc-le-zero, le_of_suc-le-suc}
 use native.Mathlib.Numerals.{sub-one}
@@ -9,8 +10,6 @@ use mathlib.Core.List.{List, [], ◌∷◌, ◌++◌, append-nil}
 use lib.ListN.{length, take, set}
 use lib.Seq.{take_all}
 use Rattle.tables.specs.LocalRecord.{record_at, records_in, then_record}
-use Rattle.tables.specs.declared.LocalRecord.{LocalRecord as Reading'}
-use Rattle.tables.specs.declared.LocalRecord.TheVariants.{Read, Wrong}
 use Rattle.tables.specs.declared.RecordPlace.{RecordPlace}
 use Rattle.records.specs.Run.{no_more, read_to, next_of, read_next, run_of}
 use Rattle.records.specs.declared.LocalRecord.{LocalRecord}
@@ -23,26 +22,26 @@ module _ (bytes : List ℕ) (at : ℕ) where
   unfolding next_of
   none_next left none = rw none
 
-  pub unread_next : (left place : ℕ) → record_at bytes at ≡ Wrong place → no_more ≡ next_of bytes at left
+  pub unread_next : (left place : ℕ) → record_at bytes at ≡ Err place → no_more ≡ next_of bytes at left
   unfolding next_of
   unread_next zero place wrong = refl
   unread_next (suc left) place wrong = rw wrong
 
   pub some_next :
-      (left : ℕ) (r : RecordPlace) → (left ≡ 0 → ⊥) → record_at bytes at ≡ Read r → read_to r (left - 1) ≡ next_of bytes at left
+      (left : ℕ) (r : RecordPlace) → (left ≡ 0 → ⊥) → record_at bytes at ≡ Ok r → read_to r (left - 1) ≡ next_of bytes at left
   unfolding next_of
   some_next zero r some read = absurd (some refl)
   some_next (suc left) r some read = rw (read, sub-one)
 
   -- the first record of a run, and the rest of the run
   by_record :
-      (room left : ℕ) (r : Reading') →
+      (room left : ℕ) (r : Result RecordPlace ℕ) →
       (let next : Reading = then_record r (λ place. no_more) (λ place. read_to place left) in
       run_of (suc room) (then_record r (λ place. []) (λ place. place ∷ records_in bytes left place.next)) ≡
       next.local ∷ run_of room (records_in bytes next.left next.at))
   unfolding run_of records_in
-  by_record room left (Read place) = refl
-  by_record room left (Wrong place) = refl
+  by_record room left (Ok place) = refl
+  by_record room left (Err place) = refl
 
   pub run_next :
       (room left : ℕ) →

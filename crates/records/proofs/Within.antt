@@ -1,6 +1,6 @@
 -- A record that can be read lies in the bytes, and so does a name that is found.
 -- Assumes nothing.
-use Rattle.std.specs.Prelude.{Option, Some, None}
+use Rattle.std.specs.Prelude.{Option, Some, None, Result, Ok, Err}
 use Prim.Native.Nat.{ℕ, zero, suc}
 use native.Mathlib.Omega.{arith}
 use mathlib.Core.Bool.{Bool, true, false}
@@ -13,25 +13,24 @@ use Rattle.items.specs.Text.{text_at, text_within, then_text}
 use Rattle.number.proofs.Laws.{number-within}
 use Rattle.items.proofs.Laws.{text-within}
 use Rattle.tables.specs.LocalRecord.{record_at, records_in, record_within, then_record}
-use Rattle.tables.specs.declared.LocalRecord.{LocalRecord}
-use Rattle.tables.specs.declared.LocalRecord.TheVariants.{Read, Wrong}
+use Rattle.tables.specs.declared.RecordPlace.{RecordPlace}
 use Rattle.search.specs.Search.{covers, first_match, name_inside}
 use Rattle.search.specs.declared.NamePlace.{NamePlace}
 use Rattle.search.specs.declared.NamePlace.TheVariants.{Name}
 
 module _ (bytes : List ℕ) (first : ℕ) where
-  abbrev Within : LocalRecord → Type 0
+  abbrev Within : Result RecordPlace ℕ → Type 0
   Within r = record_within (length bytes) first r
 
   by_number :
-      (at : ℕ) (x : Option (ℕ × ℕ)) (wrong : LocalRecord) (following : ℕ → ℕ → LocalRecord) → number_within greatest (length bytes) at x →
+      (at : ℕ) (x : Option (ℕ × ℕ)) (wrong : Result RecordPlace ℕ) (following : ℕ → ℕ → Result RecordPlace ℕ) → number_within greatest (length bytes) at x →
       Within wrong → ((v n : ℕ) → number_within greatest (length bytes) at (Some (v, n)) → Within (following v n)) →
       Within (then_number x wrong following)
   by_number at (Some (v, n)) wrong following within p go = go v n within
   by_number at None wrong following within p go = p
 
   by_text :
-      (at : ℕ) (x : Option (ℕ × ℕ)) (wrong : LocalRecord) (following : ℕ → ℕ → LocalRecord) → text_within (length bytes) at x →
+      (at : ℕ) (x : Option (ℕ × ℕ)) (wrong : Result RecordPlace ℕ) (following : ℕ → ℕ → Result RecordPlace ℕ) → text_within (length bytes) at x →
       Within wrong → ((start n : ℕ) → text_within (length bytes) at (Some (start, n)) → Within (following start n)) →
       Within (then_text x wrong following)
   by_text at (Some (start, n)) wrong following within p go = go start n within
@@ -54,13 +53,13 @@ module _ (bytes : List ℕ) (slot load : ℕ) where
   by_test false size from to rest one more = more
 
   by_record :
-      (count at : ℕ) (r : LocalRecord) → record_within (length bytes) at r →
+      (count at : ℕ) (r : Result RecordPlace ℕ) → record_within (length bytes) at r →
       ((next : ℕ) → name_inside (length bytes) (first_match (records_in bytes count next) slot load)) →
       name_inside (length bytes)
       (first_match (then_record r (λ place. []) (λ place. place ∷ records_in bytes count place.next)) slot load)
   unfolding first_match
-  by_record count at (Wrong place) within rest = tt
-  by_record count at (Read p) within rest =
+  by_record count at (Err place) within rest = tt
+  by_record count at (Ok p) within rest =
       by_test (covers p.start p.length p.slot slot load) (length bytes) p.name p.next
       (first_match (records_in bytes count p.next) slot load) (omega (arith, within.5), within.6) (rest p.next)
 

@@ -87,7 +87,7 @@ fn read_next(bytes: &[u8], reading: Reading) -> Reading
     if reading.left == 0 {
         return NO_MORE;
     }
-    let tables::LocalRecord::Read(place) = tables::read_record(bytes, reading.at) else {
+    let Ok(place) = tables::read_record(bytes, reading.at) else {
         return NO_MORE;
     };
     Reading {

@@ -1,5 +1,6 @@
 -- The search over records, one record further; and the windows of records.
 -- Assumes nothing.
+use Rattle.std.specs.Prelude.{Ok, Err}
 use Prim.Native.Nat.{ℕ, zero, suc, ◌+◌, ◌-◌, ◌≤◌, ◌<◌}
 use native.Mathlib.Nat.{not-suc-le-zero}
 use native.Mathlib.Numerals.{sub-one}
@@ -10,7 +11,6 @@ use mathlib.Core.List.{List, ◌∷◌}
 use lib.Dec.{ltb}
 use borrow.Author.Tests.{lt-ltb, le-ltb, ltb-true, ltb-false}
 use Rattle.tables.specs.LocalRecord.{record_at, records_in}
-use Rattle.tables.specs.declared.LocalRecord.TheVariants.{Read, Wrong}
 use Rattle.tables.specs.declared.RecordPlace.{RecordPlace}
 use Rattle.search.specs.Search.{covers, first_match}
 use Rattle.search.specs.declared.NamePlace.TheVariants.{Name, Unnamed}
@@ -21,12 +21,12 @@ module _ (records : List ℕ) (at slot load : ℕ) where
   none_left zero none = refl
   none_left (suc left) none = absurd (not-suc-le-zero none)
 
-  pub unread_ends : (left place : ℕ) → record_at records at ≡ Wrong place → Unnamed ≡ first_match (records_in records left at) slot load
+  pub unread_ends : (left place : ℕ) → record_at records at ≡ Err place → Unnamed ≡ first_match (records_in records left at) slot load
   unfolding records_in first_match
   unread_ends zero place e = refl
   unread_ends (suc left) place e = rw e
 
-  module _ (left : ℕ) (r : RecordPlace) (some : 0 < left) (read : record_at records at ≡ Read r) where
+  module _ (left : ℕ) (r : RecordPlace) (some : 0 < left) (read : record_at records at ≡ Ok r) where
     listed : records_in records left at ≡ r ∷ records_in records (left - 1) r.next
     unfolding records_in
     listed = by_count left some

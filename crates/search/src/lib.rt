@@ -5,8 +5,6 @@ ghost use Rattle.std.specs.Prelude.{◌≡◌, length};
 ghost use Rattle.tables.specs.LocalRecord.{records_in};
 ghost use Rattle.search.specs.Search.{covers, first_match, name_inside};
 
-use tables::LocalRecord;
-
 // Where a name lies, or that there is none.
 #[derive(Clone, Copy)]
 pub enum NamePlace {
@@ -33,7 +31,7 @@ pub fn find_record(records: &[u8], count: usize, slot: usize, load: usize) -> Na
     let mut at = 0;
     let mut left = count;
     while 0 < left {
-        let LocalRecord::Read(local) = tables::read_record(records, at) else {
+        let Ok(local) = tables::read_record(records, at) else {
             return NamePlace::Unnamed;
         };
         if covers_load(local.start, local.length, local.slot, slot, load) {

@@ -2,6 +2,7 @@
 -- Rests on: going from each record to the next lists the records of the run (crates/cases); a record that is read ends behind its name
 -- (crates/records).
 -- Assumes nothing.
+use Rattle.std.specs.Prelude.{Result, Ok, Err}
 use Prim.Native.Nat.{ℕ, zero, suc, ◌-◌}
 use native.Mathlib.Omega.{arith}
 use mathlib.Core.Path.{◌≡◌, refl, ◌∙◌, sym, ap}
@@ -10,8 +11,6 @@ use mathlib.Core.List.{List, [], ◌∷◌}
 use lib.ListN.{length}
 use Rattle.basics.proofs.Choice.{chosen}
 use Rattle.tables.specs.LocalRecord.{record_at, records_in, record_within, then_record}
-use Rattle.tables.specs.declared.LocalRecord.{LocalRecord}
-use Rattle.tables.specs.declared.LocalRecord.TheVariants.{Read, Wrong}
 use Rattle.tables.specs.declared.RecordPlace.{RecordPlace}
 use Rattle.search.specs.Search.{covers, first_match}
 use Rattle.locals.specs.Name.{unnamed, name_by, local_name}
@@ -33,7 +32,7 @@ module _ (bytes signature : List ℕ) (instance : Bool) (slot load : ℕ) where
       ≡ name_or (covering slot load (locals_at bytes places)) (unnamed signature instance slot)
 
   by_place :
-      (at : ℕ) (place : RecordPlace) (places : List RecordPlace) → record_within (length bytes) at (Read place) → Named places →
+      (at : ℕ) (place : RecordPlace) (places : List RecordPlace) → record_within (length bytes) at (Ok place) → Named places →
       Named (place ∷ places)
   unfolding first_match first
   by_place at place places within rest = by_test (covers place.start place.length place.slot slot load) refl
@@ -45,11 +44,11 @@ module _ (bytes signature : List ℕ) (instance : Bool) (slot load : ℕ) where
       by_test false e = rw e rest
 
   by_record :
-      (count at : ℕ) (r : LocalRecord) → record_within (length bytes) at r → ((next : ℕ) → Named (records_in bytes count next)) →
+      (count at : ℕ) (r : Result RecordPlace ℕ) → record_within (length bytes) at r → ((next : ℕ) → Named (records_in bytes count next)) →
       Named (then_record r (λ place. []) (λ place. place ∷ records_in bytes count place.next))
   unfolding first_match first
-  by_record count at (Read place) within rest = by_place at place (records_in bytes count place.next) within (rest place.next)
-  by_record count at (Wrong place) within rest = refl
+  by_record count at (Ok place) within rest = by_place at place (records_in bytes count place.next) within (rest place.next)
+  by_record count at (Err place) within rest = refl
 
   by_count : (count at : ℕ) → Named (records_in bytes count at)
   unfolding records_in first_match first

@@ -1,9 +1,7 @@
 -- A run of members or of local records, one of them at a time.
 -- Assumes nothing.
 use Rattle.std.specs.Prelude.{Option, Some, None, Result, Ok, Err}
-use Prim.Native.Nat.{ℕ, zero, suc, ◌+◌, ◌-◌, ◌<◌}
-use native.Mathlib.Nat.{not-suc-le-zero}
-use native.Mathlib.Numerals.{sub-one}
+use Prim.Native.Nat.{ℕ, suc, ◌+◌}
 use mathlib.Core.Path.{◌≡◌, refl}
 use mathlib.Core.Bool.{Bool, true, false}
 use mathlib.Core.List.{List}
@@ -125,19 +123,16 @@ module _ (bytes : List ℕ) (at : ℕ) (following : Layout) where
 -- ---- one turn of each loop, and of a search over the local records
 
 pub members_turn :
-    (bytes : List ℕ) (left last at : ℕ) → 0 < left →
+    (bytes : List ℕ) (left rest last at : ℕ) → left ≡ suc rest →
     run_by (members_then left last ended) bytes at
     ≡ then_member (member_at bytes last at) (λ wrong. Err wrong)
-    (λ place. run_by (members_then (left - 1) place.index ended) bytes place.next)
+    (λ place. run_by (members_then rest place.index ended) bytes place.next)
 unfolding members_then
-members_turn bytes zero last at some = absurd (not-suc-le-zero some)
-members_turn bytes (suc left) last at some =
-    rw sub-one (member-then bytes last at (λ index. members_then left index ended))
+members_turn bytes left rest last at e = rw e (member-then bytes last at (λ index. members_then rest index ended))
 
 pub records_turn :
-    (bytes : List ℕ) (left at : ℕ) → 0 < left →
+    (bytes : List ℕ) (left rest at : ℕ) → left ≡ suc rest →
     run_by (records_then left ended) bytes at
-    ≡ then_record (record_at bytes at) (λ wrong. Err wrong) (λ place. run_by (records_then (left - 1) ended) bytes place.next)
+    ≡ then_record (record_at bytes at) (λ wrong. Err wrong) (λ place. run_by (records_then rest ended) bytes place.next)
 unfolding records_then
-records_turn bytes zero at some = absurd (not-suc-le-zero some)
-records_turn bytes (suc left) at some = rw sub-one (record-then bytes at (records_then left ended))
+records_turn bytes left rest at e = rw e (record-then bytes at (records_then rest ended))

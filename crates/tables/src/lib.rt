@@ -20,14 +20,6 @@ pub struct MemberPlace {
     pub next: usize,
 }
 
-// What reading a member answers.
-#[derive(Clone, Copy)]
-pub enum Member {
-    Read(MemberPlace),
-    // The place of the first wrong item.
-    Wrong(usize),
-}
-
 // A local record: its numbers, where its name lies, and where the next record begins.
 #[derive(Clone, Copy)]
 pub struct RecordPlace {
@@ -39,99 +31,67 @@ pub struct RecordPlace {
     pub next: usize,
 }
 
-// What reading a local record answers.
-#[derive(Clone, Copy)]
-pub enum LocalRecord {
-    Read(RecordPlace),
-    // The place of the first wrong item.
-    Wrong(usize),
-}
-
 // Three texts, one behind the other.
+#[tactic(auto, unfolding(crate::specs::Layout::run_by))]
 fn read_texts(bytes: &[u8], at: usize) -> Result<usize, usize>
     ensures { (result ≡ run_by (three_texts ended) bytes.now at) × run_within (length bytes.now) at result }
 {
-    let Some((class, class_length)) = read_text(bytes, at) else {
-        return Err(at);
-    };
+    let (class, class_length) = read_text(bytes, at).ok_or(at)?;
     let name_at = class + class_length;
-    let Some((name, name_length)) = read_text(bytes, name_at) else {
-        return Err(name_at);
-    };
+    let (name, name_length) = read_text(bytes, name_at).ok_or(name_at)?;
     let descriptor_at = name + name_length;
-    let Some((descriptor, descriptor_length)) = read_text(bytes, descriptor_at) else {
-        return Err(descriptor_at);
-    };
+    let (descriptor, descriptor_length) = read_text(bytes, descriptor_at).ok_or(descriptor_at)?;
     Ok(descriptor + descriptor_length)
 }
 
 // The member at a place, whose pool index has to be above the last one.
-pub fn read_member(bytes: &[u8], at: usize, last: usize) -> Member
+#[tactic(auto, unfolding(crate::specs::Member::member_at))]
+pub fn read_member(bytes: &[u8], at: usize, last: usize) -> Result<MemberPlace, usize>
     ensures { (result ≡ member_at bytes.now last at) × member_within (length bytes.now) at result }
 {
-    let Some((index, kind_at)) = case_number(bytes, at) else {
-        return Member::Wrong(at);
-    };
+    let (index, kind_at) = case_number(bytes, at).ok_or(at)?;
     if index <= last {
-        return Member::Wrong(at);
+        return Err(at);
     }
-    let Some((kind, texts)) = case_number(bytes, kind_at) else {
-        return Member::Wrong(kind_at);
-    };
+    let (kind, texts) = case_number(bytes, kind_at).ok_or(kind_at)?;
     if 1 < kind {
-        return Member::Wrong(kind_at);
+        return Err(kind_at);
     }
-    match read_texts(bytes, texts) {
-        Ok(next) => Member::Read(MemberPlace {
-            index,
-            kind,
-            texts,
-            next,
-        }),
-        Err(wrong) => Member::Wrong(wrong),
-    }
+    let next = read_texts(bytes, texts)?;
+    Ok(MemberPlace {
+        index,
+        kind,
+        texts,
+        next,
+    })
 }
 
 // So many members from a place on, whose pool indexes are above 0 and strictly rise.
+#[tactic(auto, unfolding(crate::specs::Layout::run_by, crate::specs::Layout::members_then))]
 pub fn read_members(bytes: &[u8], from: usize, count: usize) -> Result<usize, usize>
     ensures { (result ≡ run_by (members_then count 0 ended) bytes.now from)
         × run_within (length bytes.now) from result }
 {
     let mut at = from;
     let mut last = 0;
-    let mut left = count;
-    while 0 < left {
-        match read_member(bytes, at, last) {
-            Member::Read(member) => {
-                at = member.next;
-                last = member.index;
-            }
-            Member::Wrong(wrong) => {
-                return Err(wrong);
-            }
-        }
-        left -= 1;
+    for _ in 0..count {
+        let member = read_member(bytes, at, last)?;
+        at = member.next;
+        last = member.index;
     }
     Ok(at)
 }
 
 // The local record at a place. A search over a run of records goes from each to the next.
-pub fn read_record(records: &[u8], at: usize) -> LocalRecord
+#[tactic(auto, unfolding(crate::specs::LocalRecord::record_at))]
+pub fn read_record(records: &[u8], at: usize) -> Result<RecordPlace, usize>
     ensures { (result ≡ record_at records.now at) × record_within (length records.now) at result }
 {
-    let Some((start, length_at)) = case_number(records, at) else {
-        return LocalRecord::Wrong(at);
-    };
-    let Some((length, slot_at)) = case_number(records, length_at) else {
-        return LocalRecord::Wrong(length_at);
-    };
-    let Some((slot, name_at)) = case_number(records, slot_at) else {
-        return LocalRecord::Wrong(slot_at);
-    };
-    let Some((name, name_length)) = read_text(records, name_at) else {
-        return LocalRecord::Wrong(name_at);
-    };
-    LocalRecord::Read(RecordPlace {
+    let (start, length_at) = case_number(records, at).ok_or(at)?;
+    let (length, slot_at) = case_number(records, length_at).ok_or(length_at)?;
+    let (slot, name_at) = case_number(records, slot_at).ok_or(slot_at)?;
+    let (name, name_length) = read_text(records, name_at).ok_or(name_at)?;
+    Ok(RecordPlace {
         start,
         length,
         slot,
@@ -142,22 +102,15 @@ pub fn read_record(records: &[u8], at: usize) -> LocalRecord
 }
 
 // So many local records from a place on.
+#[tactic(auto, unfolding(crate::specs::Layout::run_by, crate::specs::Layout::records_then))]
 pub fn read_records(bytes: &[u8], from: usize, count: usize) -> Result<usize, usize>
     ensures { (result ≡ run_by (records_then count ended) bytes.now from)
         × run_within (length bytes.now) from result }
 {
     let mut at = from;
-    let mut left = count;
-    while 0 < left {
-        match read_record(bytes, at) {
-            LocalRecord::Read(place) => {
-                at = place.next;
-            }
-            LocalRecord::Wrong(wrong) => {
-                return Err(wrong);
-            }
-        }
-        left -= 1;
+    for _ in 0..count {
+        let place = read_record(bytes, at)?;
+        at = place.next;
     }
     Ok(at)
 }

@@ -1,7 +1,6 @@
 // Rows on the reader of cases.
 use crate::{Told, told, told_with};
 use casefile::Case;
-use tables::LocalRecord;
 use text::put_at;
 
 // case | what | bytes => document 01's number for the answer with what it carries, or 0 and where the parts lie
@@ -49,7 +48,7 @@ fn member(out: &mut [u8], members: &[u8], count: usize, index: usize, kind: usiz
 // record | what | record run | place => the record there
 fn record(records: &[u8], at: usize) -> Told {
     match tables::read_record(records, at) {
-        LocalRecord::Read(r) => [
+        Ok(r) => [
             0,
             r.start,
             r.length,
@@ -65,7 +64,7 @@ fn record(records: &[u8], at: usize) -> Told {
             0,
             0,
         ],
-        LocalRecord::Wrong(offset) => told(1, offset, 0, 0),
+        Err(offset) => told(1, offset, 0, 0),
     }
 }
 

@@ -23,7 +23,7 @@ pub returns-then-bucket-member : goal.returns-then-bucket-member
 returns-then-bucket-member c =
     let l = c.loop-left in
     let a = c.args in
-    let member_is = sym c.read_member.ensures.0 ∙ c.in-Read.is in
+    let member_is = sym c.read_member.ensures.0 ∙ c.in-Ok.is in
     let turn = skipped_turn a.members.now a.bucket l.left l.last l.at c.loop-left-test.true in
     sym (rw (l.invariant.0, turn, member_is, le-leb _ _ c.if-bucket-member.true))
 
@@ -31,7 +31,7 @@ pub loop-left-preserved : goal.loop-left-preserved
 loop-left-preserved c =
     let l = c.loop-left in
     let a = c.args in
-    let member_is = sym c.read_member.ensures.0 ∙ c.in-Read.is in
+    let member_is = sym c.read_member.ensures.0 ∙ c.in-Ok.is in
     let turn = skipped_turn a.members.now a.bucket l.left l.last l.at c.loop-left-test.true in
     (l.invariant.0 ∙ rw (turn, member_is, lt-leb _ _ c.if-bucket-member.false), search rules)
 

@@ -22,17 +22,17 @@ returns-in_default c =
     sym (rw (l.invariant.0, turn, enum-told-is))
 
 pub slice_bounds-result-count : goal.slice_bounds-result-count
-slice_bounds-result-count c = omega (arith, rw c.in-Read.is at c.read_member.ensures.1)
+slice_bounds-result-count c = omega (arith, rw c.in-Ok.is at c.read_member.ensures.1)
 
 pub slice_bounds-result-start : goal.slice_bounds-result-start
-slice_bounds-result-start c = omega (arith, rw c.in-Read.is at c.read_member.ensures.1)
+slice_bounds-result-start c = omega (arith, rw c.in-Ok.is at c.read_member.ensures.1)
 
 pub slice_bounds-result-end-then-member-kind : goal.slice_bounds-result-end-then-member-kind
-slice_bounds-result-end-then-member-kind c = omega (arith, rw c.in-Read.is at c.read_member.ensures.1)
+slice_bounds-result-end-then-member-kind c = omega (arith, rw c.in-Ok.is at c.read_member.ensures.1)
 
 pub returns-then-member-kind : goal.returns-then-member-kind
 returns-then-member-kind c =
-    let member_is = sym c.read_member.ensures.0 ∙ c.in-Read.is in
+    let member_is = sym c.read_member.ensures.0 ∙ c.in-Ok.is in
     let a = c.args in
     let l = c.loop-left in
     let turn = found_turn a.members.now a.index a.kind l.left l.last l.at
@@ -41,7 +41,7 @@ returns-then-member-kind c =
 
 pub returns-then-member-index : goal.returns-then-member-index
 returns-then-member-index c =
-    let member_is = sym c.read_member.ensures.0 ∙ c.in-Read.is in
+    let member_is = sym c.read_member.ensures.0 ∙ c.in-Ok.is in
     let a = c.args in
     let l = c.loop-left in
     let turn = found_turn a.members.now a.index a.kind l.left l.last l.at
@@ -50,7 +50,7 @@ returns-then-member-index c =
 
 pub returns-then-index-member : goal.returns-then-index-member
 returns-then-index-member c =
-    let member_is = sym c.read_member.ensures.0 ∙ c.in-Read.is in
+    let member_is = sym c.read_member.ensures.0 ∙ c.in-Ok.is in
     let a = c.args in
     let l = c.loop-left in
     let turn = found_turn a.members.now a.index a.kind l.left l.last l.at
@@ -60,7 +60,7 @@ returns-then-index-member c =
 
 pub loop-left-preserved : goal.loop-left-preserved
 loop-left-preserved c =
-    let member_is = sym c.read_member.ensures.0 ∙ c.in-Read.is in
+    let member_is = sym c.read_member.ensures.0 ∙ c.in-Ok.is in
     let a = c.args in
     let l = c.loop-left in
     let turn = found_turn a.members.now a.index a.kind l.left l.last l.at

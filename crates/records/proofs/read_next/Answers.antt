@@ -18,6 +18,6 @@ returns-in_default c =
 pub returns : goal.returns
 returns c =
     let a = c.args in
-    some_next a.bytes.now a.reading.at a.reading.left c.in-Read.place
+    some_next a.bytes.now a.reading.at a.reading.left c.in-Ok.place
     c.if-reading-eq0.false
-    (sym c.read_record.ensures.0 ∙ c.in-Read.is)
+    (sym c.read_record.ensures.0 ∙ c.in-Ok.is)

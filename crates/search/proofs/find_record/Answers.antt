@@ -1,14 +1,14 @@
 -- `search::find_record` meets its contract. The loop's invariant: the first match from here is the first match from the start.
 -- Assumes nothing.
+use Rattle.std.specs.Prelude.{ℕ, Result, Ok}
 use native.Mathlib.Omega.{arith}
 use mathlib.Core.Path.{◌≡◌, ◌∙◌, sym, subst}
 use lib.ListN.{length}
 use Rattle.tables.specs.LocalRecord.{record_at, record_within}
-use Rattle.tables.specs.declared.LocalRecord.{LocalRecord}
-use Rattle.tables.specs.declared.LocalRecord.TheVariants.{Read}
+use Rattle.tables.specs.declared.RecordPlace.{RecordPlace}
 use Rattle.search.proofs.Search.{none_left, unread_ends, matches, passes}
 use Rattle.search.proofs.find_record.Goals as goal
-use Rattle.search.proofs.find_record.Goals.{In-Read}
+use Rattle.search.proofs.find_record.Goals.{In-Ok}
 
 pub returns-in_default : goal.returns-in_default
 returns-in_default c =
@@ -22,23 +22,23 @@ returns-in_default c =
 
 -- the record of a turn
 read :
-    (c : In-Read) →
-    record_at c.args.records.now c.loop-left.at ≡ Read c.in-Read.local
-read c = sym c.read_record.ensures.0 ∙ c.in-Read.is
+    (c : In-Ok) →
+    record_at c.args.records.now c.loop-left.at ≡ Ok c.in-Ok.local
+read c = sym c.read_record.ensures.0 ∙ c.in-Ok.is
 
 within :
-    (c : In-Read) →
-    record_within (length c.args.records.now) c.loop-left.at (Read c.in-Read.local)
+    (c : In-Ok) →
+    record_within (length c.args.records.now) c.loop-left.at (Ok c.in-Ok.local)
 within c =
-    subst (λ (r : LocalRecord). record_within (length c.args.records.now) c.loop-left.at r)
-    c.in-Read.is c.read_record.ensures.1
+    subst (λ (r : Result RecordPlace ℕ). record_within (length c.args.records.now) c.loop-left.at r)
+    c.in-Ok.is c.read_record.ensures.1
 
 pub returns-then-covers_load : goal.returns-then-covers_load
 returns-then-covers_load c =
     let a = c.args in
     let l = c.loop-left in
-    let is = within (goal.at.returns-then-covers_load c).In-Read in (
-      matches a.records.now l.at a.slot a.load l.left c.in-Read.local c.loop-left-test.true (read (goal.at.returns-then-covers_load c).In-Read)
+    let is = within (goal.at.returns-then-covers_load c).In-Ok in (
+      matches a.records.now l.at a.slot a.load l.left c.in-Ok.local c.loop-left-test.true (read (goal.at.returns-then-covers_load c).In-Ok)
           (sym c.covers_load.ensures ∙ c.if-covers_load.true)
           ∙ l.invariant,
       (omega arith, omega arith),
@@ -54,7 +54,7 @@ pub loop-left-preserved : goal.loop-left-preserved
 loop-left-preserved c =
     let a = c.args in
     let l = c.loop-left in
-    passes a.records.now l.at a.slot a.load l.left c.in-Read.local c.loop-left-test.true (read (goal.at.loop-left-preserved c).In-Read)
+    passes a.records.now l.at a.slot a.load l.left c.in-Ok.local c.loop-left-test.true (read (goal.at.loop-left-preserved c).In-Ok)
     (sym c.covers_load.ensures ∙ c.if-covers_load.false)
     ∙ l.invariant
 
