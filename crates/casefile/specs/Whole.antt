@@ -1,6 +1,6 @@
 -- The whole case (document 01, "The case" and answers 2 and 5 of "Numbers returned").
 -- Assumes nothing.
-use Rattle.std.specs.Prelude.{ℕ, ◌+◌, ◌-◌, List, [], ◌∷◌, ltb, length}
+use Rattle.std.specs.Prelude.{ℕ, ◌+◌, ◌-◌, List, [], ◌∷◌, ltb, length, Result, Ok, Err}
 use Rattle.basics.specs.Choice.{pick}
 use Rattle.number.specs.Number.{greatest, number_at, then_number}
 use Rattle.items.specs.Text.{text_at, then_text}
@@ -8,17 +8,15 @@ use Rattle.tables.specs.Layout.{members_then, records_then, ended, run_by, then_
 use Rattle.casefile.specs.declared.Case.{Case}
 use Rattle.casefile.specs.declared.Case.TheVariants.{Parts, Wrong, TooLong}
 use Rattle.casefile.specs.declared.TablePlaces.{TablePlaces}
-use Rattle.casefile.specs.declared.Tables.{Tables}
-use Rattle.casefile.specs.declared.Tables.TheVariants as tables
 
 -- "member count, members, record count, local records"
-unfoldable pub tables_at : List ℕ → ℕ → Tables
+unfoldable pub tables_at : List ℕ → ℕ → Result TablePlaces ℕ
 tables_at bytes at =
-    then_number (number_at greatest bytes at) (tables.Wrong at) (λ member_count members.
-    then_run (run_by (members_then member_count 0 ended) bytes members) (λ wrong. tables.Wrong wrong) (λ members_end.
-    then_number (number_at greatest bytes members_end) (tables.Wrong members_end) (λ record_count records.
-    then_run (run_by (records_then record_count ended) bytes records) (λ wrong. tables.Wrong wrong) (λ records_end.
-    tables.Read
+    then_number (number_at greatest bytes at) (Err at) (λ member_count members.
+    then_run (run_by (members_then member_count 0 ended) bytes members) (λ wrong. Err wrong) (λ members_end.
+    then_number (number_at greatest bytes members_end) (Err members_end) (λ record_count records.
+    then_run (run_by (records_then record_count ended) bytes records) (λ wrong. Err wrong) (λ records_end.
+    Ok
     (record {
       members = members;
       members_length = members_end - members;
@@ -29,9 +27,9 @@ tables_at bytes at =
       end = records_end;
     })))))
 
-abbrev pub then_tables : {A : Type 0} → Tables → (ℕ → A) → (TablePlaces → A) → A
-then_tables (tables.Read places) wrong following = following places
-then_tables (tables.Wrong place) wrong following = wrong place
+abbrev pub then_tables : {A : Type 0} → Result TablePlaces ℕ → (ℕ → A) → (TablePlaces → A) → A
+then_tables (Ok places) wrong following = following places
+then_tables (Err place) wrong following = wrong place
 
 -- "A case holds, in order: access flags, faulting index, code text, name signature text, .., and nothing after."; "excess bytes
 -- at the first one"

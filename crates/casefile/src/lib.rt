@@ -23,14 +23,6 @@ pub struct TablePlaces {
     pub end: usize,
 }
 
-// What reading the two runs answers.
-#[derive(Clone, Copy)]
-pub enum Tables {
-    Read(TablePlaces),
-    // The place of the first wrong item.
-    Wrong(usize),
-}
-
 // Where the parts of a case lie.
 #[derive(Clone, Copy)]
 pub struct Places {
@@ -58,31 +50,17 @@ pub enum Case {
     TooLong,
 }
 
-// Member count, members, record count, local records. What follows them is the caller's to judge.
-fn read_tables(bytes: &[u8], at: usize) -> Tables
+// Member count, members, record count, local records, or the place of the first wrong item. What follows them is the caller's to
+// judge.
+#[tactic(auto, unfolding(crate::specs::Whole::tables_at))]
+fn read_tables(bytes: &[u8], at: usize) -> Result<TablePlaces, usize>
     ensures { result ≡ tables_at bytes.now at }
 {
-    let Some((member_count, members)) = case_number(bytes, at) else {
-        return Tables::Wrong(at);
-    };
-    let member_run = tables::read_members(bytes, members, member_count);
-    let members_end = match member_run {
-        Ok(end) => end,
-        Err(wrong) => {
-            return Tables::Wrong(wrong);
-        }
-    };
-    let Some((record_count, records)) = case_number(bytes, members_end) else {
-        return Tables::Wrong(members_end);
-    };
-    let record_run = tables::read_records(bytes, records, record_count);
-    let records_end = match record_run {
-        Ok(end) => end,
-        Err(wrong) => {
-            return Tables::Wrong(wrong);
-        }
-    };
-    Tables::Read(TablePlaces {
+    let (member_count, members) = case_number(bytes, at).ok_or(at)?;
+    let members_end = tables::read_members(bytes, members, member_count)?;
+    let (record_count, records) = case_number(bytes, members_end).ok_or(members_end)?;
+    let records_end = tables::read_records(bytes, records, record_count)?;
+    Ok(TablePlaces {
         members,
         members_length: members_end - members,
         member_count,
@@ -115,8 +93,8 @@ pub fn read_case(bytes: &[u8]) -> Case
     };
     let runs = read_tables(bytes, signature + signature_length);
     let tables = match runs {
-        Tables::Read(tables) => tables,
-        Tables::Wrong(wrong) => {
+        Ok(tables) => tables,
+        Err(wrong) => {
             return Case::Wrong(wrong);
         }
     };

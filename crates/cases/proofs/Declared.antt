@@ -23,9 +23,8 @@ use Rattle.tables.specs.declared.MemberPlace.{MemberPlace}
 use Rattle.tables.proofs.Runs.{member-then, record-then}
 use Rattle.casefile.specs.Whole.{tables_at, then_tables, places_in, longest, case_of}
 use Rattle.casefile.specs.declared.Case.{Case}
+use Rattle.casefile.specs.declared.TablePlaces.{TablePlaces}
 use Rattle.casefile.specs.declared.Case.TheVariants as answer
-use Rattle.casefile.specs.declared.Tables.{Tables}
-use Rattle.casefile.specs.declared.Tables.TheVariants as tables
 use Rattle.cases.specs.FirstWrong.{Reached, start, after_number, after_text, goes_on, ends_here, NothingRight, FirstWrong, FirstWrongDeclared}
 use Rattle.cases.proofs.Items.{number_on, sized_on, may_end_on, may_end_here}
 use Rattle.cases.proofs.Reading.{number_reads, number_stands, text_reads, text_stands}
@@ -260,11 +259,11 @@ module _ (bytes : List ℕ) where
           (flags fault_at fault code_at code code_length signature signature_length : ℕ) →
           number_at greatest bytes 0 ≡ Some (flags, fault_at) → number_at greatest bytes fault_at ≡ Some (fault, code_at) →
           text_at bytes code_at ≡ Some (code, code_length) → text_at bytes (code + code_length) ≡ Some (signature, signature_length) →
-          (t : Tables) → tables_at bytes (signature + signature_length) ≡ t → CaseRun
-      by_tables flags fault_at fault code_at code code_length signature signature_length e f g h (tables.Read places) i =
+          (t : Result TablePlaces ℕ) → tables_at bytes (signature + signature_length) ≡ t → CaseRun
+      by_tables flags fault_at fault code_at code code_length signature signature_length e f g h (Ok places) i =
           rw (e, f, g, h, tables-then ended bytes (signature + signature_length), i)
           (by_end (ltb places.end (length bytes)) places.end _ refl)
-      by_tables flags fault_at fault code_at code code_length signature signature_length e f g h (tables.Wrong offset) i =
+      by_tables flags fault_at fault code_at code code_length signature signature_length e f g h (Err offset) i =
           rw (e, f, g, h, tables-then ended bytes (signature + signature_length), i)
 
       by_signature :

@@ -20,7 +20,6 @@ use Rattle.casefile.specs.Whole.{tables_at, places_in, longest, case_of}
 use Rattle.casefile.specs.declared.Case.TheVariants as answer
 use Rattle.casefile.specs.declared.Places.{Places}
 use Rattle.casefile.specs.declared.TablePlaces.{TablePlaces}
-use Rattle.casefile.specs.declared.Tables.TheVariants as tables
 use Rattle.cases.specs.LaidOut.{members_bytes, MemberRun, records_bytes, RecordRun, LaidOut, ReadsBack, AcceptedIsLaidOut}
 use Rattle.cases.specs.Standing.{Stands}
 use Rattle.cases.proofs.Declared.{all_right, wrong_at, on_run, on_case, case_run, fits_of, of_short}
@@ -85,7 +84,7 @@ module _ (bytes : List ℕ) (at : ℕ) (p : Parts) (right : LaidOut p) where
   records_stand : Stands bytes at table_bytes → Stands bytes records_at p.records
   records_stand stands = second_stands bytes members_end (number_bytes p.record_count) p.records (count_stands stands)
 
-  tables_read : Stands bytes at table_bytes → tables_at bytes at ≡ tables.Read table_places
+  tables_read : Stands bytes at table_bytes → tables_at bytes at ≡ Ok table_places
   unfolding tables_at
   tables_read stands =
       rw (

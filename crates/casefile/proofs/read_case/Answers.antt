@@ -46,14 +46,14 @@ returns-in_default-read_text-2 c =
 pub overflow_add-signature : goal.overflow_add-signature
 overflow_add-signature c = omega (arith, rw c.in-Some-read_text-2.is at c.read_text-2.ensures.1)
 
-pub returns-in-Wrong : goal.returns-in-Wrong
+pub returns-in-Err : goal.returns-in-Err
 unfolding case_of places_in
-returns-in-Wrong c =
+returns-in-Err c =
     let flags-is = sym c.case_number.ensures.0 ∙ c.in-Some.is in
     let fault-is = sym c.case_number-2.ensures.0 ∙ c.in-Some-case_number.is in
     let code_is = sym c.read_text.ensures.0 ∙ c.in-Some-read_text.is in
     let signature_is = sym c.read_text-2.ensures.0 ∙ c.in-Some-read_text-2.is in
-    let runs2-is = sym c.read_tables-runs.ensures ∙ c.in-Wrong.is in
+    let runs2-is = sym c.read_tables-runs.ensures ∙ c.in-Err.is in
     sym (rw (le-ltb _ _ c.if-bytes-gt-LONGEST.false, flags-is, fault-is, code_is, signature_is, runs2-is))
 
 pub returns-then-records_end-bytes : goal.returns-then-records_end-bytes
@@ -63,7 +63,7 @@ returns-then-records_end-bytes c =
     let fault-is = sym c.case_number-2.ensures.0 ∙ c.in-Some-case_number.is in
     let code_is = sym c.read_text.ensures.0 ∙ c.in-Some-read_text.is in
     let signature_is = sym c.read_text-2.ensures.0 ∙ c.in-Some-read_text-2.is in
-    let runs-is = sym c.read_tables-runs.ensures ∙ c.in-Read.is in
+    let runs-is = sym c.read_tables-runs.ensures ∙ c.in-Ok.is in
     let excess = lt-ltb _ _ c.if-records_end-bytes.true in
     sym (rw (le-ltb _ _ c.if-bytes-gt-LONGEST.false, flags-is, fault-is, code_is, signature_is, runs-is, excess))
 
@@ -74,6 +74,6 @@ returns c =
     let fault-is = sym c.case_number-2.ensures.0 ∙ c.in-Some-case_number.is in
     let code_is = sym c.read_text.ensures.0 ∙ c.in-Some-read_text.is in
     let signature_is = sym c.read_text-2.ensures.0 ∙ c.in-Some-read_text-2.is in
-    let runs-is = sym c.read_tables-runs.ensures ∙ c.in-Read.is in
+    let runs-is = sym c.read_tables-runs.ensures ∙ c.in-Ok.is in
     let whole = le-ltb _ _ c.if-records_end-bytes.false in
     sym (rw (le-ltb _ _ c.if-bytes-gt-LONGEST.false, flags-is, fault-is, code_is, signature_is, runs-is, whole))
