@@ -1,6 +1,6 @@
 -- What the code's stores make of the cells: a list is laid into them, or there are too few slots or too few cells.
 -- Assumes nothing.
-use Rattle.std.specs.Prelude.{Some, None}
+use Rattle.std.specs.Prelude.{Some, None, Ok, Err}
 use Prim.Native.Nat.{ℕ, zero, suc, ◌+◌, ◌-◌, ◌≤◌, ◌<◌}
 use native.Mathlib.Omega.{arith}
 use mathlib.Core.Path.{◌≡◌, refl, ◌∙◌, sym, ap, ap₂}
@@ -18,7 +18,7 @@ use Rattle.row.specs.Code.{swap_places}
 use Rattle.block.specs.Inner.{Clean, Laid}
 use Rattle.walk.specs.Room.{shown}
 use Rattle.walk.specs.Walk.{cells, Push, load, carried, does, refused, Made, made, pushed, applied, too_large}
-use Rattle.block.specs.declared.Height.TheVariants.{Refused, Over, High}
+use Rattle.block.specs.declared.Halt.TheVariants.{Stops, Lacks}
 
 drop_replicate : (j n : ℕ) → drop {A = ℕ} j (replicate n 0) ≡ replicate (n - j) 0
 drop_replicate zero n = let e : n - 0 ≡ n = omega arith in rw e
@@ -35,17 +35,17 @@ shows room stack slots start rest =
 -- ---- an outcome in the cells
 
 module _ (stack : List ℕ) (outcome : Made ℕ) (slots : List ℕ) (is : outcome ≡ made slots) where
-  pub laid_over : length stack < length slots → Laid stack Over stack outcome
+  pub laid_over : length stack < length slots → Laid stack (Err Lacks) stack outcome
   laid_over more =
       let test : leb (length slots) (length stack) ≡ false = lt-leb (length slots) (length stack) more in
       rw is (record { answers = rw test; leaves = rw test })
 
   pub laid_high :
       (height : ℕ) (left : List ℕ) → height ≡ length slots → length slots ≤ length stack →
-      left ≡ shown (length stack) slots → Laid stack (High height) left outcome
+      left ≡ shown (length stack) slots → Laid stack (Ok height) left outcome
   laid_high height left high fits shown-so =
       let test : leb (length slots) (length stack) ≡ true = le-leb (length slots) (length stack) fits in
-      rw is (record { answers = rw test (ap High high); leaves = rw test shown-so })
+      rw is (record { answers = rw test (ap Ok high); leaves = rw test shown-so })
 
 module _ (c : List ℕ) (h : ℕ) (clean : Clean c h) where
   abbrev slots : List ℕ
@@ -77,7 +77,7 @@ module _ (c : List ℕ) (h : ℕ) (clean : Clean c h) where
       ap₂ (λ (a b : List ℕ). a ++ b) e rest_zero ∙ replicate-append-replicate (length slots) (length c - h) 0
       ∙ ap (λ (k : ℕ). replicate k 0) all
 
-  pub too_few : (pc takes : ℕ) (push : Push) → h < takes → Laid c Refused c (applied cells pc (does takes push) slots)
+  pub too_few : (pc takes : ℕ) (push : Push) → h < takes → Laid c (Err Stops) c (applied cells pc (does takes push) slots)
   too_few pc takes push fewer =
       let test : leb takes (length slots) ≡ false = ap (leb takes) high ∙ lt-leb takes h fewer in
       record { answers = rw test; leaves = rw test }
@@ -143,7 +143,7 @@ module _ (c : List ℕ) (h : ℕ) (clean : Clean c h) where
       enough pc 0 (load local) (omega arith) ∙ rw (h.0, none_taken, h.1)
 
   pub load_refused :
-      (pc local : ℕ) → packed pc local ≡ None → Laid c Refused c (applied cells pc (does 0 (load local)) slots)
+      (pc local : ℕ) → packed pc local ≡ None → Laid c (Err Stops) c (applied cells pc (does 0 (load local)) slots)
   load_refused pc local e =
       let is : applied cells pc (does 0 (load local)) slots ≡ refused too_large =
       enough pc 0 (load local) (omega arith) ∙ rw (none_packed pc local e) in
@@ -151,12 +151,12 @@ module _ (c : List ℕ) (h : ℕ) (clean : Clean c h) where
 
   pub load_over :
       (pc local v : ℕ) → packed pc local ≡ Some v → length c ≤ h →
-      Laid c Over c (applied cells pc (does 0 (load local)) slots)
+      Laid c (Err Lacks) c (applied cells pc (does 0 (load local)) slots)
   load_over pc local v e full = laid_over c _ _ (load_is pc local v e) (omega (arith, top_length v))
 
   pub load_high :
       (pc local v : ℕ) → packed pc local ≡ Some v → h < length c →
-      Laid c (High (h + 1)) (set c h v) (applied cells pc (does 0 (load local)) slots)
+      Laid c (Ok (h + 1)) (set c h v) (applied cells pc (does 0 (load local)) slots)
   load_high pc local v e room =
       laid_high c _ _ (load_is pc local v e) (h + 1) (set c h v) (sym (top_length v)) (omega (arith, top_length v))
       (top_shown v room)

@@ -1,5 +1,6 @@
 -- The walk's loop, by any table of rows: the walk from an index on is the walk from the leader. Where the loop ends, the contract is met.
 -- Assumes nothing.
+use Rattle.std.specs.Prelude.{Result, Err}
 use Prim.Native.Nat.{ℕ, zero, suc, ◌+◌, ◌-◌, ◌≤◌, ◌<◌}
 use native.Mathlib.Nat.{zero-add}
 use native.Mathlib.Omega.{arith}
@@ -13,17 +14,18 @@ use Rattle.effects.specs.Agreement.{Sized}
 use Rattle.effects.specs.Lookup.{Lookup, lookup_in}
 use Rattle.effects.specs.Rows.{Row, rows_of}
 use Rattle.effects.specs.declared.Model.{Model}
-use Rattle.block.specs.Inner.{Clean, step_of, stepped_in, Stepped}
+use Rattle.block.specs.Inner.{going, Clean, step_of, stepped_in, Stepped}
 use Rattle.walk.specs.Room.{completed, Roomed, fits, block_walk_by, block_walk_in, answer_of, shown, cells_of, WalksIn}
 use Rattle.walk.specs.Walk.{Reason, overshot, cells, Outcome, goes, failed, walk}
 use Rattle.walk.proofs.Step.{onward}
-use Rattle.block.specs.declared.Step.{Step}
-use Rattle.block.specs.declared.Step.TheVariants.{Stops, Lacks, Passes, Goes}
 use Rattle.walk.specs.declared.Walk.{Walk}
 use Rattle.walk.specs.declared.Walk.TheVariants.{Done, Failed, NoRoom}
 use Rattle.block.proofs.Laying.{shown_take, shown_length, clean_shown}
 use Rattle.block.proofs.Walking.{at, from, following, turn, ended_at, ended_past, stopped, lacked, passed}
 use Rattle.block.proofs.Walking.{went, kept_stopped, kept_lacked}
+use Rattle.block.specs.declared.Halt.{Halt}
+use Rattle.block.specs.declared.Place.{Place}
+use Rattle.block.specs.declared.Halt.TheVariants.{Stops, Lacks, Passes}
 
 module _ (rows : ℕ → Row) (code members : List ℕ) (count leader fault : ℕ) where
   abbrev lookup : Lookup
@@ -78,7 +80,7 @@ module _ (rows : ℕ → Row) (code members : List ℕ) (count leader fault : �
     told : pc < fault → following rows lookup code fault room (i.2.0 - 1) pc completed here ≡ whole room
     told short = next_turn i.2.0 short i.2.1 i.2.3
 
-    sized_so : (answer : Step) → answer ≡ step_of (length stack) here → answer ≡ step_of room here
+    sized_so : (answer : Result Place Halt) → answer ≡ step_of (length stack) here → answer ≡ step_of room here
     sized_so answer e = e ∙ ap (λ (k : ℕ). step_of k here) i.0
 
     laid :
@@ -89,15 +91,15 @@ module _ (rows : ℕ → Row) (code members : List ℕ) (count leader fault : �
         ∙ rw (le-leb (length list) (length stack) (omega (arith, i.0))) (ap (λ (k : ℕ). shown k list) i.0)
 
     module _ (sized : Sized rows) (bytes : AreBytes code) (short : pc < fault) (left : List ℕ) (next high : ℕ)
-        (s : Stepped stack (Goes next high) left here) where
+        (s : Stepped stack (going next high) left here) where
       pub up : pc < next
       up =
-          let w = went rows lookup code fault room next high here (sized_so (Goes next high) s.answers) in
+          let w = went rows lookup code fault room next high here (sized_so (going next high) s.answers) in
           onward cells rows lookup code fault pc (take height stack) sized bytes next w.0 w.1
 
       pub again : Inv room left next high (completed + 1)
       again =
-          let w = went rows lookup code fault room next high here (sized_so (Goes next high) s.answers) in
+          let w = went rows lookup code fault room next high here (sized_so (going next high) s.answers) in
           let list : List ℕ = w.0 in
           let left_is : left ≡ shown room list = laid left list next w.1 s.leaves w.3 in
           let goes_on : following rows lookup code fault room (i.2.0 - 1) pc completed (goes next list) ≡ whole room =
@@ -124,10 +126,10 @@ module _ (rows : ℕ → Row) (code members : List ℕ) (count leader fault : �
       now = here (length first) stack pc height completed i
 
       -- an instruction that stops, or lacks room, leaves the slots as they were
-      pub clean_stopped : (left : List ℕ) → Stepped stack Stops left now → Clean left height
+      pub clean_stopped : (left : List ℕ) → Stepped stack (Err Stops) left now → Clean left height
       clean_stopped left s = rw (kept_stopped stack left now s) i.1
 
-      pub clean_lacked : (left : List ℕ) → Stepped stack Lacks left now → Clean left height
+      pub clean_lacked : (left : List ℕ) → Stepped stack (Err Lacks) left now → Clean left height
       clean_lacked left s = rw (kept_lacked stack left now s) i.1
 
       -- left: the cells that the instruction leaves; final: these cleared
@@ -138,26 +140,26 @@ module _ (rows : ℕ → Row) (code members : List ℕ) (count leader fault : �
         as_long : left ≡ stack → length left ≡ length entry
         as_long kept = ap length kept ∙ i.0 ∙ same
 
-        pub ends_stopped : pc < fault → Stepped stack Stops left now → Met entry final (Failed completed)
+        pub ends_stopped : pc < fault → Stepped stack (Err Stops) left now → Met entry final (Failed completed)
         ends_stopped short s =
             let t = stopped rows lookup code fault (length first) (i.2.0 - 1) pc completed now
-            (sized_so (length first) stack pc height completed i Stops s.answers) in
+            (sized_so (length first) stack pc height completed i (Err Stops) s.answers) in
             failed_so final completed pc t.0
             (sym (told (length first) stack pc height completed i short) ∙ t.1)
             (cleared (as_long (kept_stopped stack left now s)))
 
-        pub ends_lacked : pc < fault → Stepped stack Lacks left now → Met entry final (NoRoom pc)
+        pub ends_lacked : pc < fault → Stepped stack (Err Lacks) left now → Met entry final (NoRoom pc)
         ends_lacked short s =
             let t = lacked rows lookup code fault (length first) (i.2.0 - 1) pc completed now
-            (sized_so (length first) stack pc height completed i Lacks s.answers) in
+            (sized_so (length first) stack pc height completed i (Err Lacks) s.answers) in
             rw (ap whole (sym same) ∙ sym (told (length first) stack pc height completed i short) ∙ t)
             (refl, cleared (as_long (kept_lacked stack left now s)))
 
         pub ends_passed :
-            pc < fault → length left ≡ length entry → Stepped stack Passes left now → Met entry final (Failed (completed + 1))
+            pc < fault → length left ≡ length entry → Stepped stack (Err Passes) left now → Met entry final (Failed (completed + 1))
         ends_passed short size s =
             let t = passed rows lookup code fault (length first) (i.2.0 - 1) pc completed now
-            (sized_so (length first) stack pc height completed i Passes s.answers) in
+            (sized_so (length first) stack pc height completed i (Err Passes) s.answers) in
             failed_so final (completed + 1) pc overshot (sym (told (length first) stack pc height completed i short) ∙ t)
             (cleared size)
 

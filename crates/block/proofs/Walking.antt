@@ -1,8 +1,9 @@
 -- What the code's answer to one instruction tells of the walk from there on, by any table of rows.
 -- Assumes nothing.
+use Rattle.std.specs.Prelude.{Result, Ok, Err}
 use Prim.Native.Nat.{ℕ, zero, suc, ◌+◌, ◌≤◌, ◌<◌}
 use native.Mathlib.Omega.{arith}
-use mathlib.Core.Path.{◌≡◌, refl}
+use mathlib.Core.Path.{◌≡◌, refl, ap}
 use mathlib.Core.Bool.{Bool, true, false}
 use mathlib.Core.List.{List}
 use lib.Dec.{leb}
@@ -13,35 +14,36 @@ use Rattle.effects.specs.Lookup.{Lookup}
 use Rattle.effects.specs.Rows.{Row}
 use Rattle.walk.specs.Room.{completing, completed_from, Roomed, lacks, fits, judged, shown}
 use Rattle.walk.specs.Walk.{Reason, overshot, cells, Outcome, stops, goes, passes, done, failed, step, after, walk_from}
-use Rattle.block.specs.Inner.{step_of, Stepped}
-use Rattle.block.specs.declared.Step.{Step}
-use Rattle.block.specs.declared.Step.TheVariants.{Stops, Lacks, Passes, Goes}
+use Rattle.block.specs.Inner.{going, step_of, Stepped}
+use Rattle.block.specs.declared.Halt.{Halt}
+use Rattle.block.specs.declared.Place.{Place}
+use Rattle.block.specs.declared.Halt.TheVariants.{Stops, Lacks, Passes}
 
-no_stops : {P : Type 0} (b : Bool) (other : Step) → (Stops ≡ other → ◌≡◌ {A = ℕ} 0 1) → Stops ≡ pick b other Lacks → P
-no_stops true other never e = let z = never e in absurd (omega arith)
-no_stops false other never e = let z : ◌≡◌ {A = ℕ} 0 1 = cc in absurd (omega arith)
+no_stops : {P : Type 0} (b : Bool) (other : Result Place Halt) → (Err Stops ≡ other → ⊥) → Err Stops ≡ pick b other (Err Lacks) → P
+no_stops true other never e = absurd (never e)
+no_stops false other never e = absurd cc
 
 -- an instruction that stops, or lacks room, leaves the cells as they were
 module _ (stack left : List ℕ) where
-  pub kept_stopped : (x : Outcome ℕ) → Stepped stack Stops left x → left ≡ stack
+  pub kept_stopped : (x : Outcome ℕ) → Stepped stack (Err Stops) left x → left ≡ stack
   kept_stopped (stops reason) s = s.leaves
   kept_stopped (goes next list) s =
-      no_stops (leb (length list) (length stack)) (Goes next (length list)) (λ z. cc) s.answers
-  kept_stopped (passes list) s = no_stops (leb (length list) (length stack)) Passes (λ z. cc) s.answers
+      no_stops (leb (length list) (length stack)) (going next (length list)) (λ z. cc) s.answers
+  kept_stopped (passes list) s = no_stops (leb (length list) (length stack)) (Err Passes) (λ z. cc) s.answers
 
   kept_unless :
-      (b : Bool) (other : Step) (list : List ℕ) → (Lacks ≡ other → ◌≡◌ {A = ℕ} 0 1) → Lacks ≡ pick b other Lacks →
+      (b : Bool) (other : Result Place Halt) (list : List ℕ) → (Err Lacks ≡ other → ⊥) → Err Lacks ≡ pick b other (Err Lacks) →
       left ≡ pick b list stack → left ≡ stack
-  kept_unless true other list never e l = let z = never e in absurd (omega arith)
+  kept_unless true other list never e l = absurd (never e)
   kept_unless false other list never e l = l
 
-  pub kept_lacked : (x : Outcome ℕ) → Stepped stack Lacks left x → left ≡ stack
+  pub kept_lacked : (x : Outcome ℕ) → Stepped stack (Err Lacks) left x → left ≡ stack
   kept_lacked (stops reason) s = s.leaves
   kept_lacked (goes next list) s =
-      kept_unless (leb (length list) (length stack)) (Goes next (length list)) (shown (length stack) list) (λ z. cc)
+      kept_unless (leb (length list) (length stack)) (going next (length list)) (shown (length stack) list) (λ z. cc)
       s.answers s.leaves
   kept_lacked (passes list) s =
-      kept_unless (leb (length list) (length stack)) Passes (shown (length stack) list) (λ z. cc) s.answers s.leaves
+      kept_unless (leb (length list) (length stack)) (Err Passes) (shown (length stack) list) (λ z. cc) s.answers s.leaves
 
 module _ (rows : ℕ → Row) (lookup : Lookup) (code : List ℕ) (fault room : ℕ) where
   abbrev pub at : ℕ → List ℕ → Outcome ℕ
@@ -91,63 +93,67 @@ module _ (rows : ℕ → Row) (lookup : Lookup) (code : List ℕ) (fault room : 
   -- ---- by what the code answers of the instruction
 
   pub stopped :
-      (turns pc count : ℕ) (x : Outcome ℕ) → Stops ≡ step_of room x →
+      (turns pc count : ℕ) (x : Outcome ℕ) → Err Stops ≡ step_of room x →
       (reason : Reason) × (following turns pc count x ≡ fits (failed count pc reason))
   stopped turns pc count (stops reason) e = (reason, refl)
-  stopped turns pc count (goes next list) e = no_stops (leb (length list) room) (Goes next (length list)) (λ z. cc) e
-  stopped turns pc count (passes list) e = no_stops (leb (length list) room) Passes (λ z. cc) e
+  stopped turns pc count (goes next list) e = no_stops (leb (length list) room) (going next (length list)) (λ z. cc) e
+  stopped turns pc count (passes list) e = no_stops (leb (length list) room) (Err Passes) (λ z. cc) e
 
-  pub lacked : (turns pc count : ℕ) (x : Outcome ℕ) → Lacks ≡ step_of room x → following turns pc count x ≡ lacks pc
-  lacked turns pc count (stops reason) e = let z : ◌≡◌ {A = ℕ} 0 1 = cc in absurd (omega arith)
+  pub lacked : (turns pc count : ℕ) (x : Outcome ℕ) → Err Lacks ≡ step_of room x → following turns pc count x ≡ lacks pc
+  lacked turns pc count (stops reason) e = absurd cc
   lacked turns pc count (goes next list) e = by_test (leb (length list) room) e
     where
       by_test :
-          (b : Bool) → Lacks ≡ pick b (Goes next (length list)) Lacks →
+          (b : Bool) → Err Lacks ≡ pick b (going next (length list)) (Err Lacks) →
           pick b (from turns next list (count + 1)) (lacks pc) ≡ lacks pc
-      by_test true e = let z : ◌≡◌ {A = ℕ} 0 1 = cc in absurd (omega arith)
+      by_test true e = absurd cc
       by_test false e = refl
   lacked turns pc count (passes list) e = by_test (leb (length list) room) e
     where
       by_test :
-          (b : Bool) → Lacks ≡ pick b Passes Lacks →
+          (b : Bool) → ◌≡◌ {A = Result Place Halt} (Err Lacks) (pick b (Err Passes) (Err Lacks)) →
           pick {A = Roomed ℕ} b (fits (failed (count + 1) pc overshot)) (lacks pc) ≡ lacks pc
-      by_test true e = let z : ◌≡◌ {A = ℕ} 0 1 = cc in absurd (omega arith)
+      by_test true e = absurd cc
       by_test false e = refl
 
   pub passed :
-      (turns pc count : ℕ) (x : Outcome ℕ) → Passes ≡ step_of room x →
+      (turns pc count : ℕ) (x : Outcome ℕ) → Err Passes ≡ step_of room x →
       following turns pc count x ≡ fits (failed (count + 1) pc overshot)
-  passed turns pc count (stops reason) e = let z : ◌≡◌ {A = ℕ} 0 1 = cc in absurd (omega arith)
+  passed turns pc count (stops reason) e = absurd cc
   passed turns pc count (goes next list) e = by_test (leb (length list) room) e
     where
-      by_test : {P : Type 0} (b : Bool) → Passes ≡ pick b (Goes next (length list)) Lacks → P
-      by_test true e = let z : ◌≡◌ {A = ℕ} 0 1 = cc in absurd (omega arith)
-      by_test false e = let z : ◌≡◌ {A = ℕ} 0 1 = cc in absurd (omega arith)
+      by_test : {P : Type 0} (b : Bool) → Err Passes ≡ pick b (going next (length list)) (Err Lacks) → P
+      by_test true e = absurd cc
+      by_test false e = absurd cc
   passed turns pc count (passes list) e = by_test (leb (length list) room) e
     where
       by_test :
-          (b : Bool) → Passes ≡ pick b Passes Lacks →
+          (b : Bool) → ◌≡◌ {A = Result Place Halt} (Err Passes) (pick b (Err Passes) (Err Lacks)) →
           pick {A = Roomed ℕ} b (fits (failed (count + 1) pc overshot)) (lacks pc) ≡ fits (failed (count + 1) pc overshot)
       by_test true e = refl
-      by_test false e = let z : ◌≡◌ {A = ℕ} 0 1 = cc in absurd (omega arith)
+      by_test false e = absurd cc
+
+  same_place : (p q : Place) → ◌≡◌ {A = Result Place Halt} (Ok p) (Ok q) → p ≡ q
+  same_place p q e = cc
 
   abbrev pub Went : ℕ → ℕ → Outcome ℕ → Type 0
   Went next high x = (list : List ℕ) × (x ≡ goes next list) × (high ≡ length list) × (length list ≤ room)
 
-  pub went : (next high : ℕ) (x : Outcome ℕ) → Goes next high ≡ step_of room x → Went next high x
-  went next high (stops reason) e = let z : ◌≡◌ {A = ℕ} 0 1 = cc in absurd (omega arith)
+  pub went : (next high : ℕ) (x : Outcome ℕ) → going next high ≡ step_of room x → Went next high x
+  went next high (stops reason) e = absurd cc
   went next high (goes q list) e = by_test (leb (length list) room) refl e
     where
       by_test :
-          (b : Bool) → leb (length list) room ≡ b → Goes next high ≡ pick b (Goes q (length list)) Lacks →
+          (b : Bool) → leb (length list) room ≡ b → going next high ≡ pick b (going q (length list)) (Err Lacks) →
           Went next high (goes q list)
       by_test true t e =
-          let same : next ≡ q = cc in
-          let size : high ≡ length list = cc in
+          let place = same_place _ _ e in
+          let same : next ≡ q = ap (λ (p : Place). p.pc) place in
+          let size : high ≡ length list = ap (λ (p : Place). p.height) place in
           (list, rw same, size, leb-true (length list) room t)
-      by_test false t e = let z : ◌≡◌ {A = ℕ} 0 1 = cc in absurd (omega arith)
+      by_test false t e = absurd cc
   went next high (passes list) e = by_test (leb (length list) room) e
     where
-      by_test : {P : Type 0} (b : Bool) → Goes next high ≡ pick b Passes Lacks → P
-      by_test true e = let z : ◌≡◌ {A = ℕ} 0 1 = cc in absurd (omega arith)
-      by_test false e = let z : ◌≡◌ {A = ℕ} 0 1 = cc in absurd (omega arith)
+      by_test : {P : Type 0} (b : Bool) → going next high ≡ pick b (Err Passes) (Err Lacks) → P
+      by_test true e = absurd cc
+      by_test false e = absurd cc

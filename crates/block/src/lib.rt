@@ -13,8 +13,8 @@ ghost use Rattle.row.specs.Code.{copy_places, swap_places};
 ghost use Rattle.walk.specs.Room.{Walks, WalksIn};
 ghost use Rattle.walk.specs.Walk.{cells, blanks, load as load_push, carried, does, applied, step as step_at};
 ghost use Rattle.instruction.specs.Code.{effect_from};
-ghost use Rattle.block.specs.Inner.{Clean, Laid, Stepped};
-ghost use Rattle.block.specs.declared.Step.TheVariants.{Goes, Passes};
+ghost use Rattle.block.specs.Inner.{Clean, Laid, Stepped, going};
+ghost use Rattle.block.specs.declared.Halt.TheVariants.{Passes};
 
 use cell::clear;
 use effects::Model;
@@ -27,97 +27,98 @@ const MANY: usize = 128;
 // The cells of the table: 1,024 buckets hold every pool index that an instruction can cite.
 const CELLS: usize = 3072;
 
-// The height after an effect.
+// Why a walk does not go on at the next instruction.
 #[derive(Clone, Copy)]
-pub enum Height {
-    Refused,
-    Over,
-    High(usize),
-}
-
-// How an instruction ends.
-#[derive(Clone, Copy)]
-pub enum Step {
+pub enum Halt {
+    // The instruction fails.
     Stops,
+    // The lent stack has too few cells for the slots.
     Lacks,
+    // The instruction is completed, and passes the fault.
     Passes,
-    Goes { pc: usize, height: usize },
 }
 
-// Takes slots and pushes opaque ones, which are zero.
-fn push_opaque(stack: &mut [u64], height: usize, takes: usize, gives: usize) -> Height
+// Where a walk stands: at an instruction, with so many slots.
+#[derive(Clone, Copy)]
+pub struct Place {
+    pub pc: usize,
+    pub height: usize,
+}
+
+// Takes slots and pushes opaque ones, which are zero. Each function of an effect answers the height after it.
+fn push_opaque(stack: &mut [u64], height: usize, takes: usize, gives: usize) -> Result<usize, Halt>
     requires { Clean stack.old height }
     ensures { Laid stack.old result stack.new
         (applied cells 0 (does takes (blanks gives)) (take height stack.old)) }
 {
     if height < takes {
-        return Height::Refused;
+        return Err(Halt::Stops);
     }
     let start = height - takes;
     if stack.len() - start < gives {
-        return Height::Over;
+        return Err(Halt::Lacks);
     }
     clear(&mut stack[start..height]);
-    Height::High(start + gives)
+    Ok(start + gives)
 }
 
 // Pushes the load of a local.
-fn push_load(stack: &mut [u64], height: usize, pc: usize, local: usize) -> Height
+fn push_load(stack: &mut [u64], height: usize, pc: usize, local: usize) -> Result<usize, Halt>
     requires { Clean stack.old height }
     ensures { Laid stack.old result stack.new
         (applied cells pc (does 0 (load_push local)) (take height stack.old)) }
 {
     let Some(cell) = cell::pack(pc, local) else {
-        return Height::Refused;
+        return Err(Halt::Stops);
     };
     if stack.len() <= height {
-        return Height::Over;
+        return Err(Halt::Lacks);
     }
     stack[height] = cell;
-    Height::High(height + 1)
+    Ok(height + 1)
 }
 
 // Copies the topmost slots below so many under them.
-fn push_copies(stack: &mut [u64], height: usize, count: usize, under: usize) -> Height
+fn push_copies(stack: &mut [u64], height: usize, count: usize, under: usize) -> Result<usize, Halt>
     requires { Clean stack.old height }
     ensures { Laid stack.old result stack.new
         (applied cells 0 (does (count + under) (carried (copy_places count under))) (take height stack.old)) }
 {
     if height < count {
-        return Height::Refused;
+        return Err(Halt::Stops);
     }
     if height - count < under {
-        return Height::Refused;
+        return Err(Halt::Stops);
     }
     if stack.len() - height < count {
-        return Height::Over;
+        return Err(Halt::Lacks);
     }
     copies::copy_below(stack, height, count, under);
-    Height::High(height + count)
+    Ok(height + count)
 }
 
-fn swap_top(stack: &mut [u64], height: usize) -> Height
+fn swap_top(stack: &mut [u64], height: usize) -> Result<usize, Halt>
     requires { Clean stack.old height }
     ensures { Laid stack.old result stack.new
         (applied cells 0 (does 2 (carried swap_places)) (take height stack.old)) }
 {
     if height < 2 {
-        return Height::Refused;
+        return Err(Halt::Stops);
     }
     let top = stack[height - 1];
     stack[height - 1] = stack[height - 2];
     stack[height - 2] = top;
-    Height::High(height)
+    Ok(height)
 }
 
 // Applies an effect to the slots of a height.
-fn apply(stack: &mut [u64], height: usize, pc: usize, effect: Effect) -> Height
+fn apply(stack: &mut [u64], height: usize, pc: usize, effect: Effect) -> Result<usize, Halt>
     requires { Clean stack.old height }
     ensures { Laid stack.old result stack.new
         (applied cells pc (effect_from effect) (take height stack.old)) }
 {
     match effect {
-        Effect::Fails => Height::Refused,
+        Effect::Fails => Err(Halt::Stops),
         Effect::Opaque { takes, gives } => push_opaque(stack, height, takes, gives),
         Effect::Load { local } => push_load(stack, height, pc, local),
         Effect::Copies { count, under } => push_copies(stack, height, count, under),
@@ -137,17 +138,17 @@ fn size_by(lengths: &[u8; 256], key: Key) -> usize
 }
 
 // How an instruction ends that leaves a height: it goes on behind its bytes, or passes the fault.
-fn land(pc: usize, fault: usize, size: usize, height: usize) -> Step
+fn land(pc: usize, fault: usize, size: usize, height: usize) -> Result<Place, Halt>
     requires { pc < fault }
-    ensures { result ≡ pick (leb (pc + size) fault) (Goes (pc + size) height) Passes }
+    ensures { result ≡ pick (leb (pc + size) fault) (going (pc + size) height) (Err Passes) }
 {
     if fault - pc < size {
-        return Step::Passes;
+        return Err(Halt::Passes);
     }
-    Step::Goes {
+    Ok(Place {
         pc: pc + size,
         height,
-    }
+    })
 }
 
 // One instruction.
@@ -162,7 +163,7 @@ fn step_at(
     fault: usize,
     stack: &mut [u64],
     height: usize,
-) -> Step
+) -> Result<Place, Halt>
     requires fixed_lengths { FixedLengths lengths.now }
     requires indexed { Indexed members.now count table.now }
     requires clean { Clean stack.old height }
@@ -172,16 +173,13 @@ fn step_at(
         (take height stack.old)) }
 {
     if code.len() <= pc {
-        return Step::Stops;
+        return Err(Halt::Stops);
     }
     let key = key::key_at(code, pc);
     let effect = instruction::effect_of(model, key, code, members, count, table, pc);
     let size = size_by(lengths, key);
-    match apply(stack, height, pc, effect) {
-        Height::Refused => Step::Stops,
-        Height::Over => Step::Lacks,
-        Height::High(next) => land(pc, fault, size, next),
-    }
+    let next = apply(stack, height, pc, effect)?;
+    land(pc, fault, size, next)
 }
 
 // Ends a walk that fails: its slots are cleared, and the cells above them are zero.
@@ -218,20 +216,17 @@ fn walk_block(
         match step_at(
             model, &lengths, code, members, count, table, pc, fault, stack, height,
         ) {
-            Step::Stops => return give_up(stack, height, Walk::Failed { count: completed }),
-            Step::Lacks => return give_up(stack, height, Walk::NoRoom { at: pc }),
-            Step::Passes => {
+            Err(Halt::Stops) => return give_up(stack, height, Walk::Failed { count: completed }),
+            Err(Halt::Lacks) => return give_up(stack, height, Walk::NoRoom { at: pc }),
+            Err(Halt::Passes) => {
                 clear(stack);
                 return Walk::Failed {
                     count: completed + 1,
                 };
             }
-            Step::Goes {
-                pc: next,
-                height: high,
-            } => {
-                pc = next;
-                height = high;
+            Ok(next) => {
+                pc = next.pc;
+                height = next.height;
                 completed += 1;
             }
         }

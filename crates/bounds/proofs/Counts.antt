@@ -35,9 +35,8 @@ use Rattle.answer.specs.Answer.{kind_of, Said, silent, roomless, said, needed, a
 use Rattle.report.specs.Report.{scan_of, traced_in, said_by, said_at, said_in, answer_of, report_in}
 use Rattle.report.specs.declared.Manner.{Manner}
 use Rattle.trace.specs.Trace.{trace_of, traced_by}
+use Rattle.trace.specs.declared.Traced.{Traced}
 use Rattle.answer.specs.declared.Report.TheVariants.{Message, NoOutput}
-use Rattle.trace.specs.declared.Trace.{Trace}
-use Rattle.trace.specs.declared.Trace.TheVariants.{NoRoom, Traced}
 use Rattle.bounds.specs.Counts.{Small, CountsSmall}
 
 -- ---- the scan
@@ -125,9 +124,9 @@ walked_within model code members count leader fault room =
 
 -- ---- the report
 
-abbrev SmallTrace : Trace → Type 0
-SmallTrace (NoRoom index) = Unit {0}
-SmallTrace (Traced scan block cause) = (scan ≤ greatest) × (block ≤ greatest)
+abbrev SmallTrace : Result Traced ℕ → Type 0
+SmallTrace (Err index) = Unit {0}
+SmallTrace (Ok t) = (t.scan ≤ greatest) × (t.block ≤ greatest)
 
 abbrev SmallSaid : Said → Type 0
 SmallSaid silent = Unit {0}
@@ -167,9 +166,9 @@ module _ (manner : Manner) (p : Parts) (laid : LaidOut p) (room : ℕ) where
       by_fault (Failed action depth) =
           by_trace (traced_in manner.model p depth room) (traced_small depth)
         where
-          by_trace : (t : Trace) → SmallTrace t → SmallSaid (said_by manner.wording p action t)
-          by_trace (NoRoom index) small = tt
-          by_trace (Traced scan block cause) small = (kind_small cause, small.0, small.1)
+          by_trace : (t : Result Traced ℕ) → SmallTrace t → SmallSaid (said_by manner.wording p action t)
+          by_trace (Err index) small = tt
+          by_trace (Ok t) small = (kind_small t.cause, small.0, small.1)
 
 small_answer : (s : Said) (out_room : ℕ) → SmallSaid s → Small (answer_by s out_room)
 small_answer silent out_room small = tt

@@ -26,12 +26,11 @@ use Rattle.answer.specs.Answer.{kind_of, Said, said}
 use Rattle.report.specs.Report.{document_manner, scan_of, traced_in, message_of, said_by, said_at, said_in}
 use Rattle.report.specs.declared.Manner.{Manner}
 use Rattle.trace.specs.Trace.{slot_from, trace_of, traced_by}
-use Rattle.trace.specs.declared.Trace.{Trace}
-use Rattle.trace.specs.declared.Trace.TheVariants.{NoRoom, Traced}
 use Rattle.words.specs.declared.Wording.{Wording}
 use Rattle.evidence.specs.Kind.{CausedIn, KindTwoIn, KindTwo, ActionAlone, OneOrTwoIn, OneOrTwo}
 use Rattle.leader.specs.declared.Scanned.{Scanned}
 use Rattle.leader.specs.Scan.{led_to}
+use Rattle.trace.specs.declared.Traced.{Traced}
 
 -- ---- kind 2 has a cause: what is said is taken apart, from the fault to the slot
 
@@ -51,7 +50,7 @@ module _ (manner : Manner) (p : Parts) (room : ℕ) (message : List ℕ) (scan b
         by_slot :
             (slot : Option Load) → found ≡ slot → ltb depth (length slots) ≡ true →
             Two (said (message_of manner.wording p action slot) (kind_of slot) scanned count) → CausedIn manner p room message scan block
-        by_slot None e high told = let z : ◌≡◌ {A = ℕ} 1 2 = cc in absurd (omega arith)
+        by_slot None e high told = absurd cc
         by_slot (Some l) e high told =
             let words : message_of manner.wording p action (Some l) ≡ message = cc in
             let scans : scanned ≡ scan = cc in
@@ -76,14 +75,14 @@ module _ (manner : Manner) (p : Parts) (room : ℕ) (message : List ℕ) (scan b
             Two (said (message_of manner.wording p action (pick b found None)) (kind_of (pick b found None)) scanned count) →
             CausedIn manner p room message scan block
         by_height true e told = by_slot found refl e told
-        by_height false e told = let z : ◌≡◌ {A = ℕ} 1 2 = cc in absurd (omega arith)
+        by_height false e told = absurd cc
 
       by_walk :
           (walked : Roomed ℕ) → block_walk_in manner.model p.code p.members p.member_count leader p.fault room ≡ walked →
           Two (said_by manner.wording p action (trace_of scanned depth walked)) → CausedIn manner p room message scan block
       unfolding slot_from
-      by_walk (lacks index) e told = let z : ◌≡◌ {A = ℕ} 0 1 = cc in absurd (omega arith)
-      by_walk (fits (failed count index reason)) e told = let z : ◌≡◌ {A = ℕ} 1 2 = cc in absurd (omega arith)
+      by_walk (lacks index) e told = absurd cc
+      by_walk (fits (failed count index reason)) e told = absurd cc
       by_walk (fits (done slots count)) e told = by_height slots count e (ltb depth (length slots)) refl told
 
     by_scan :
@@ -92,12 +91,12 @@ module _ (manner : Manner) (p : Parts) (room : ℕ) (message : List ℕ) (scan b
         CausedIn manner p room message scan block
     by_scan (Ok s) e told =
         by_walk s.at s.count e (block_walk_in manner.model p.code p.members p.member_count s.at p.fault room) refl told
-    by_scan (Err s) e told = let z : ◌≡◌ {A = ℕ} 1 2 = cc in absurd (omega arith)
+    by_scan (Err s) e told = absurd cc
 
   by_fault :
       (fault : Fault) → decoded p.code p.members p.member_count p.fault ≡ fault → Two (said_at manner p room fault) →
       CausedIn manner p room message scan block
-  by_fault Nothing e told = let z : ◌≡◌ {A = ℕ} 0 1 = cc in absurd (omega arith)
+  by_fault Nothing e told = absurd cc
   by_fault (Failed action depth) e told = by_scan action depth e (scan_of p) refl told
 
   has_cause : Two (said_in manner p room) → CausedIn manner p room message scan block
@@ -142,14 +141,14 @@ module _ (manner : Manner) (p : Parts) (room : ℕ) (message : List ℕ) (kind s
         inl (one, record { action = action; depth = depth; decodes = decodes; words = same ∙ plain manner.wording p action })
     by_cause (Some l) scanned count told = inr cc
 
-    by_trace : (trace : Trace) → said_by manner.wording p action trace ≡ said message kind scan block → Kinds
-    by_trace (NoRoom index) told = let z : ◌≡◌ {A = ℕ} 0 1 = cc in absurd (omega arith)
-    by_trace (Traced scanned count cause) told = by_cause cause scanned count told
+    by_trace : (trace : Result Traced ℕ) → said_by manner.wording p action trace ≡ said message kind scan block → Kinds
+    by_trace (Err index) told = absurd cc
+    by_trace (Ok t) told = by_cause t.cause t.scan t.block told
 
   by_decoding :
       (fault : Fault) → decoded p.code p.members p.member_count p.fault ≡ fault →
       said_at manner p room fault ≡ said message kind scan block → Kinds
-  by_decoding Nothing e told = let z : ◌≡◌ {A = ℕ} 0 1 = cc in absurd (omega arith)
+  by_decoding Nothing e told = absurd cc
   by_decoding (Failed action depth) e told =
       by_trace action depth e (traced_in manner.model p depth room) told
 

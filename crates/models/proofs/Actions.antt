@@ -16,14 +16,13 @@ use Rattle.fault.specs.declared.Fault.TheVariants.{Failed, Nothing}
 use Rattle.answer.specs.Answer.{kind_of, silent, roomless, said}
 use Rattle.report.specs.Report.{scan_of, traced_in, message_of, said_by, said_at, said_in}
 use Rattle.report.specs.declared.Manner.{Manner}
-use Rattle.trace.specs.Trace.{trace_of, traced_by}
-use Rattle.trace.specs.declared.Trace.{Trace}
-use Rattle.trace.specs.declared.Trace.TheVariants.{NoRoom, Traced}
+use Rattle.trace.specs.Trace.{trace_of, traced_by, traced_with}
 use Rattle.words.specs.declared.Wording.{Wording}
 use Rattle.models.specs.Models.{old, full, SilentAlike, SameAction, ActionsAlike}
 use Rattle.models.proofs.Cause.{same_cause}
 use Rattle.models.proofs.Elsewhere.{fault}
 use Rattle.leader.specs.declared.Scanned.{Scanned}
+use Rattle.trace.specs.declared.Traced.{Traced}
 
 abbrev scanned : Result Scanned Scanned → ℕ
 scanned (Ok s) = s.count
@@ -33,9 +32,9 @@ scanned (Err s) = s.count
 
 module _ (p : Parts) (manner : Manner) (room : ℕ) where
   -- a fault is told of, or lacks room
-  not_silent : (action : Action) (trace : Trace) → said_by manner.wording p action trace ≡ silent → ⊥
-  not_silent action (NoRoom index) e = let z : ◌≡◌ {A = ℕ} 0 1 = cc in absurd (omega arith)
-  not_silent action (Traced scan block cause) e = let z : ◌≡◌ {A = ℕ} 0 1 = cc in absurd (omega arith)
+  not_silent : (action : Action) (trace : Result Traced ℕ) → said_by manner.wording p action trace ≡ silent → ⊥
+  not_silent action (Err index) e = absurd cc
+  not_silent action (Ok t) e = absurd cc
 
   by_fault : (f : Fault) → said_at manner p room f ≡ silent → f ≡ Nothing
   by_fault Nothing e = refl
@@ -51,12 +50,15 @@ module _ (p : Parts) (manner : Manner) (room : ℕ) where
 
 -- ---- a message
 
+same_scan : (t u : Traced) → ◌≡◌ {A = Result Traced ℕ} (Ok u) (Ok t) → t.scan ≡ u.scan
+same_scan t u e = let same : t ≡ u = cc in ap (λ (x : Traced). x.scan) same
+
 walk_scans :
-    (scan depth : ℕ) (walked : Roomed ℕ) (s block : ℕ) (cause : Option Load) → trace_of scan depth walked ≡ Traced s block cause →
+    (scan depth : ℕ) (walked : Roomed ℕ) (s block : ℕ) (cause : Option Load) → trace_of scan depth walked ≡ traced_with s block cause →
     s ≡ scan
-walk_scans scan depth (lacks index) s block cause e = let z : ◌≡◌ {A = ℕ} 0 1 = cc in absurd (omega arith)
-walk_scans scan depth (fits (failed count index reason)) s block cause e = cc
-walk_scans scan depth (fits (done slots count)) s block cause e = cc
+walk_scans scan depth (lacks index) s block cause e = absurd cc
+walk_scans scan depth (fits (failed count index reason)) s block cause e = same_scan _ _ e
+walk_scans scan depth (fits (done slots count)) s block cause e = same_scan _ _ e
 
 module _ (manner : Manner) (p : Parts) (room : ℕ) (message : List ℕ) (kind scan block : ℕ) where
   -- what it is made of
@@ -72,33 +74,33 @@ module _ (manner : Manner) (p : Parts) (room : ℕ) (message : List ℕ) (kind s
   module _ (action : Action) (depth : ℕ) (decodes : fault p ≡ Failed action depth) where
     trace_scans :
         (x : Result Scanned Scanned) (s count : ℕ) (cause : Option Load) →
-        traced_by manner.model p.code p.members p.member_count p.fault depth room x ≡ Traced s count cause →
+        traced_by manner.model p.code p.members p.member_count p.fault depth room x ≡ traced_with s count cause →
         s ≡ scanned x
     trace_scans (Ok x) s count cause e =
         walk_scans x.count depth (block_walk_in manner.model p.code p.members p.member_count x.at p.fault room)
         s count cause e
-    trace_scans (Err x) s count cause e = cc
+    trace_scans (Err x) s count cause e = same_scan _ _ e
 
     by_trace :
-        (trace : Trace) → traced_in manner.model p depth room ≡ trace →
+        (trace : Result Traced ℕ) → traced_in manner.model p depth room ≡ trace →
         said_by manner.wording p action trace ≡ said message kind scan block → Made
-    by_trace (NoRoom index) e told = let z : ◌≡◌ {A = ℕ} 0 1 = cc in absurd (omega arith)
-    by_trace (Traced s count cause) e told =
-        let words : message_of manner.wording p action cause ≡ message = cc in
-        let kinds : kind_of cause ≡ kind = cc in
-        let scans : s ≡ scan = cc in
+    by_trace (Err index) e told = absurd cc
+    by_trace (Ok t) e told =
+        let words : message_of manner.wording p action t.cause ≡ message = cc in
+        let kinds : kind_of t.cause ≡ kind = cc in
+        let scans : t.scan ≡ scan = cc in
         record {
           action = action;
           depth = depth;
           decodes = decodes;
-          cause = cause;
+          cause = t.cause;
           words = sym words;
           kinds = sym kinds;
-          scans = sym scans ∙ trace_scans (scan_of p) s count cause e;
+          scans = sym scans ∙ trace_scans (scan_of p) t.scan t.block t.cause e;
         }
 
   by_decoding : (f : Fault) → fault p ≡ f → said_at manner p room f ≡ said message kind scan block → Made
-  by_decoding Nothing e told = let z : ◌≡◌ {A = ℕ} 0 1 = cc in absurd (omega arith)
+  by_decoding Nothing e told = absurd cc
   by_decoding (Failed action depth) e told =
       by_trace action depth e (traced_in manner.model p depth room) refl told
 

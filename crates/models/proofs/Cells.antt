@@ -31,8 +31,7 @@ use Rattle.walk.specs.Walk.{cells, Walked, done, failed, walk}
 use Rattle.walks.specs.Cells.{document_cells, document_unpacked, SameSlot}
 use Rattle.walks.specs.Marks.{EndAlike, both_done, both_failed}
 use Rattle.walks.proofs.Cells.{present_walks}
-use Rattle.trace.specs.Trace.{slot_from, trace_of}
-use Rattle.trace.specs.declared.Trace.TheVariants.{Traced}
+use Rattle.trace.specs.Trace.{slot_from, trace_of, traced_with}
 use Rattle.fault.specs.Decoding.{decoded}
 use Rattle.fault.specs.declared.Fault.{Fault}
 use Rattle.fault.specs.declared.Fault.TheVariants.{Failed, Nothing}
@@ -61,7 +60,7 @@ slot_same {former} {slots} each depth = rw (each_length each) (by_test (ltb dept
 end_same :
     (scan depth : ℕ) {former walked : Walked ℕ} → EndAlike SameSlot former walked →
     trace_of scan depth (fits walked) ≡ former_trace scan depth (fits former)
-end_same scan depth (both_done {slots} {others} {count} each) = ap (Traced scan count) (slot_same each depth)
+end_same scan depth (both_done {slots} {others} {count} each) = ap (traced_with scan count) (slot_same each depth)
 end_same scan depth both_failed = refl
 
 -- ---- an answer

@@ -17,8 +17,6 @@ use Rattle.walk.specs.Room.{Roomed, lacks, fits, completed, judged, block_walk}
 use Rattle.walk.specs.Room.{answer_of as walk_answer}
 use Rattle.walk.specs.Walk.{done, failed, walk}
 use Rattle.walks.specs.Cells.{document_cells, document_unpacked}
-use Rattle.trace.specs.declared.Trace.{Trace}
-use Rattle.trace.specs.declared.Trace.TheVariants.{NoRoom, Traced}
 use Rattle.fault.specs.Decoding.{decoded}
 use Rattle.fault.specs.declared.Fault.{Fault}
 use Rattle.fault.specs.declared.Fault.TheVariants.{Failed, Nothing}
@@ -28,6 +26,8 @@ use Rattle.answer.specs.declared.Report.TheVariants as report
 use Rattle.words.specs.declared.Wording.{Wording}
 use Rattle.report.specs.Report.{manner_of, scan_of, said_by, said_in, report_in, reported_by}
 use Rattle.leader.specs.declared.Scanned.{Scanned}
+use Rattle.trace.specs.declared.Traced.{Traced}
+use Rattle.trace.specs.Trace.{traced_with}
 
 -- ---- a walk and a report by document 01's cells, as those of crates/walk/specs and crates/report/specs are by the cells in use
 
@@ -39,15 +39,15 @@ former_walk code members count leader fault room =
 abbrev pub former_slot : List ℕ → ℕ → Option Load
 former_slot slots depth = pick (ltb depth (length slots)) (document_unpacked (get_or slots (length slots - 1 - depth) 0)) None
 
-abbrev pub former_trace : ℕ → ℕ → Roomed ℕ → Trace
-former_trace scan depth (lacks index) = NoRoom index
-former_trace scan depth (fits (failed block index reason)) = Traced scan block None
-former_trace scan depth (fits (done slots block)) = Traced scan block (former_slot slots depth)
+abbrev pub former_trace : ℕ → ℕ → Roomed ℕ → Result Traced ℕ
+former_trace scan depth (lacks index) = Err index
+former_trace scan depth (fits (failed block index reason)) = traced_with scan block None
+former_trace scan depth (fits (done slots block)) = traced_with scan block (former_slot slots depth)
 
-abbrev pub former_traced : Parts → ℕ → ℕ → Result Scanned Scanned → Trace
+abbrev pub former_traced : Parts → ℕ → ℕ → Result Scanned Scanned → Result Traced ℕ
 former_traced p depth room (Ok s) =
     former_trace s.count depth (former_walk p.code p.members p.member_count s.at p.fault room)
-former_traced p depth room (Err s) = Traced s.count 0 None
+former_traced p depth room (Err s) = traced_with s.count 0 None
 
 abbrev pub former_said_at : Wording → Parts → ℕ → Fault → Said
 former_said_at w p room Nothing = silent

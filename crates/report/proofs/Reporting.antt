@@ -1,6 +1,6 @@
 -- What is said of parts in a manner, by what their fault decodes to and its trace.
 -- Assumes nothing.
-use Rattle.std.specs.Prelude.{Option}
+use Rattle.std.specs.Prelude.{Option, Err}
 use Prim.Native.Nat.{ℕ}
 use mathlib.Core.Bool.{Bool}
 use mathlib.Core.List.{List}
@@ -15,10 +15,9 @@ use Rattle.answer.specs.Answer.{kind_of, said, Delivered}
 use Rattle.locals.specs.Name.{is_instance}
 use Rattle.report.specs.Report.{message_of, said_in}
 use Rattle.report.specs.declared.Manner.{Manner}
-use Rattle.trace.specs.Trace.{traced}
+use Rattle.trace.specs.Trace.{traced, traced_with}
 use Rattle.answer.specs.declared.Report.TheVariants as report
 use Rattle.answer.specs.declared.Report.{Report}
-use Rattle.trace.specs.declared.Trace.TheVariants.{NoRoom, Traced}
 
 module _ (manner : Manner) (p : Parts) (room : ℕ) (out : List ℕ) where
   abbrev pub Reports : Report → List ℕ → Type 0
@@ -31,14 +30,14 @@ module _ (manner : Manner) (p : Parts) (room : ℕ) (out : List ℕ) where
   module _ (action : Action) (depth : ℕ) where
     pub is_roomless :
         (index : ℕ) → decoded p.code p.members p.member_count p.fault ≡ Failed action depth →
-        traced manner.model p.code p.members p.member_count p.fault depth room ≡ NoRoom index →
+        traced manner.model p.code p.members p.member_count p.fault depth room ≡ Err index →
         Reports (report.NoRoom index) out
     unfolding said_in traced
     is_roomless index e t = record { answers = rw (e, t); leaves = rw (e, t) }
 
     pub is_said :
         (scan block : ℕ) (cause : Option Load) → decoded p.code p.members p.member_count p.fault ≡ Failed action depth →
-        traced manner.model p.code p.members p.member_count p.fault depth room ≡ Traced scan block cause →
+        traced manner.model p.code p.members p.member_count p.fault depth room ≡ traced_with scan block cause →
         (instance : Bool) → instance ≡ is_instance p.flags → (answer : Report) (left : List ℕ) →
         Delivered
         (said (message_text manner.wording p.members p.member_count action cause p.records p.record_count p.signature instance)

@@ -1,7 +1,7 @@
 -- The report of a case (document 01, "Numbers returned"): its answer, the output and the stack at exit. It is asked for in a manner: the
 -- model of its walk (document 02, request 1) and the wording of its message (request 11).
 -- Assumes nothing.
-use Rattle.std.specs.Prelude.{ℕ, zero, suc, List, [], Option, Result}
+use Rattle.std.specs.Prelude.{ℕ, zero, suc, List, [], Option, Result, Err, Ok}
 use Rattle.cell.specs.declared.Load.{Load}
 use Rattle.bytecode.specs.Length.{length_of}
 use Rattle.leader.specs.Scan.{block_leader}
@@ -20,10 +20,9 @@ use Rattle.fault.specs.declared.Fault.TheVariants.{Failed, Nothing}
 use Rattle.locals.specs.Name.{is_instance}
 use Rattle.message.specs.Message.{message_text}
 use Rattle.trace.specs.Trace.{traced_by}
+use Rattle.trace.specs.declared.Traced.{Traced}
 use Rattle.answer.specs.declared.Report.{Report}
 use Rattle.answer.specs.declared.Report.TheVariants as report
-use Rattle.trace.specs.declared.Trace.{Trace}
-use Rattle.trace.specs.declared.Trace.TheVariants as trace
 use Rattle.words.specs.Wording.{wording_by}
 use Rattle.words.specs.declared.Named.{Named}
 use Rattle.words.specs.declared.Named.TheVariants.{Known, Unknown}
@@ -74,15 +73,15 @@ scan_of p = block_leader length_of [] p.code p.fault
 
 -- the cause of the fault in a model, whose reference lies at a depth, with so many cells lent: over what a scan answered, and over
 -- the report's
-abbrev pub traced_from : Model → Result Scanned Scanned → Parts → ℕ → ℕ → Trace
+abbrev pub traced_from : Model → Result Scanned Scanned → Parts → ℕ → ℕ → Result Traced ℕ
 traced_from model scan p depth room = traced_by model p.code p.members p.member_count p.fault depth room scan
 
-abbrev pub traced_in : Model → Parts → ℕ → ℕ → Trace
+abbrev pub traced_in : Model → Parts → ℕ → ℕ → Result Traced ℕ
 traced_in model p depth room = traced_from model (scan_of p) p depth room
 
-abbrev pub said_by : Wording → Parts → Action → Trace → Said
-said_by wording p action (trace.NoRoom index) = roomless index
-said_by wording p action (trace.Traced scan block cause) = said (message_of wording p action cause) (kind_of cause) scan block
+abbrev pub said_by : Wording → Parts → Action → Result Traced ℕ → Said
+said_by wording p action (Err index) = roomless index
+said_by wording p action (Ok t) = said (message_of wording p action t.cause) (kind_of t.cause) t.scan t.block
 
 abbrev pub said_from : Manner → Result Scanned Scanned → Parts → ℕ → Fault → Said
 said_from manner scan p room Nothing = silent

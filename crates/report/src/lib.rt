@@ -12,7 +12,7 @@ use effects::Model;
 use fault::Fault;
 use items::part_at;
 use locals::is_instance;
-use trace::{Trace, trace_cause};
+use trace::{Traced, trace_cause};
 use words::{Named, Wording};
 
 // How a report is asked for.
@@ -91,8 +91,8 @@ pub fn report_parts_in(
     };
     let model = manner.model;
     match trace_cause(model, code, members, member_count, at, depth, stack) {
-        Trace::NoRoom { at: index } => Report::NoRoom { at: index },
-        Trace::Traced { scan, block, cause } => {
+        Err(index) => Report::NoRoom { at: index },
+        Ok(Traced { scan, block, cause }) => {
             let instance = is_instance(flags);
             let wording = manner.wording;
             write_message(

@@ -1,6 +1,6 @@
 -- What the walk's answer and its cells tell of the trace.
 -- Assumes nothing.
-use Rattle.std.specs.Prelude.{Option, None}
+use Rattle.std.specs.Prelude.{Option, None, Err}
 use Prim.Native.Nat.{ℕ, ◌+◌, ◌-◌, ◌≤◌, ◌<◌}
 use native.Mathlib.Omega.{arith}
 use mathlib.Core.Bool.{Bool, true, false}
@@ -16,8 +16,7 @@ use Rattle.cell.specs.declared.Load.{Load}
 use Rattle.walk.specs.Room.{Roomed, lacks, fits, answer_of, shown, cells_of}
 use Rattle.walk.specs.Walk.{done, failed}
 use Rattle.walk.specs.declared.Walk.TheVariants.{Done, Failed, NoRoom}
-use Rattle.trace.specs.Trace.{slot_from, trace_of}
-use Rattle.trace.specs.declared.Trace.TheVariants.{NoRoom as LacksRoom, Traced}
+use Rattle.trace.specs.Trace.{slot_from, trace_of, traced_with}
 
 module _ (scan depth room : ℕ) where
   -- the answer of the trace, and the zero cells
@@ -26,19 +25,19 @@ module _ (scan depth room : ℕ) where
 
   pub lacked :
       (walked : Roomed ℕ) (index : ℕ) (left : List ℕ) → NoRoom index ≡ answer_of walked →
-      (LacksRoom index ≡ trace_of scan depth walked) × Cleared left walked
-  lacked (lacks i) index left e = let same : index ≡ i = cc in (ap LacksRoom same, λ l. l)
-  lacked (fits (done slots count)) index left e = let z : ◌≡◌ {A = ℕ} 0 1 = cc in absurd (omega arith)
-  lacked (fits (failed count at reason)) index left e = let z : ◌≡◌ {A = ℕ} 0 1 = cc in absurd (omega arith)
+      (Err index ≡ trace_of scan depth walked) × Cleared left walked
+  lacked (lacks i) index left e = let same : index ≡ i = cc in (ap (λ (k : ℕ). Err k) same, λ l. l)
+  lacked (fits (done slots count)) index left e = absurd cc
+  lacked (fits (failed count at reason)) index left e = absurd cc
 
   pub failing :
       (walked : Roomed ℕ) (block : ℕ) (left : List ℕ) → Failed block ≡ answer_of walked →
-      (Traced scan block None ≡ trace_of scan depth walked) × Cleared left walked
-  failing (lacks i) block left e = let z : ◌≡◌ {A = ℕ} 0 1 = cc in absurd (omega arith)
-  failing (fits (done slots count)) block left e = let z : ◌≡◌ {A = ℕ} 0 1 = cc in absurd (omega arith)
+      (traced_with scan block None ≡ trace_of scan depth walked) × Cleared left walked
+  failing (lacks i) block left e = absurd cc
+  failing (fits (done slots count)) block left e = absurd cc
   failing (fits (failed count at reason)) block left e =
       let same : block ≡ count = cc in
-      (ap (λ (k : ℕ). Traced scan k None) same, λ l. l)
+      (ap (λ (k : ℕ). traced_with scan k None) same, λ l. l)
 
   -- the slots of a walk that is done, in the cells that it leaves
   pub record Finished (walked : Roomed ℕ) (height block : ℕ) : Type 0 where
@@ -47,8 +46,8 @@ module _ (scan depth room : ℕ) where
     pub high : height ≡ length slots
 
   pub finished : (walked : Roomed ℕ) (height block : ℕ) → Done height block ≡ answer_of walked → Finished walked height block
-  finished (lacks i) height block e = let z : ◌≡◌ {A = ℕ} 0 1 = cc in absurd (omega arith)
-  finished (fits (failed count at reason)) height block e = let z : ◌≡◌ {A = ℕ} 0 1 = cc in absurd (omega arith)
+  finished (lacks i) height block e = absurd cc
+  finished (fits (failed count at reason)) height block e = absurd cc
   finished (fits (done slots count)) height block e =
       let same : block ≡ count = cc in
       let size : height ≡ length slots = cc in
@@ -86,8 +85,8 @@ module _ (scan depth room : ℕ) where
 
     pub traces :
         (cause : Option Load) → cause ≡ pick (ltb depth height) (unpacked (get_or left (height - 1 - depth) 0)) None →
-        Traced scan block cause ≡ trace_of scan depth walked
-    traces cause e = rw f.walked_so (ap (Traced scan block) (e ∙ cause_is))
+        traced_with scan block cause ≡ trace_of scan depth walked
+    traces cause e = rw f.walked_so (ap (traced_with scan block) (e ∙ cause_is))
 
     -- the first cells cleared, as many as there are slots
     pub emptied :

@@ -12,19 +12,12 @@ use effects::Model;
 use leader::Scanned;
 use walk::Walk;
 
-// What tracing a cause answers.
+// What a trace finds: the scan count, the block count, and what the slot at the depth holds.
 #[derive(Clone, Copy)]
-pub enum Trace {
-    // The lent stack lacks room at an index.
-    NoRoom {
-        at: usize,
-    },
-    // The scan count, the block count, and what the slot at the depth holds.
-    Traced {
-        scan: usize,
-        block: usize,
-        cause: Option<Load>,
-    },
+pub struct Traced {
+    pub scan: usize,
+    pub block: usize,
+    pub cause: Option<Load>,
 }
 
 // The slot so far from the top.
@@ -38,7 +31,7 @@ fn slot_from(stack: &[u64], height: usize, depth: usize) -> Option<Load>
     None
 }
 
-// Walks a block in a model and looks at the slot at the depth. The stack is zero afterwards.
+// Walks a block in a model and looks at the slot at the depth. The stack is zero afterwards. An Err is the index at which it lacks room.
 fn trace_block(
     model: Model,
     code: &[u8],
@@ -49,29 +42,29 @@ fn trace_block(
     depth: usize,
     scan: usize,
     stack: &mut [u64],
-) -> Trace
+) -> Result<Traced, usize>
     ensures answers { result ≡ trace_of scan depth (block_walk_in model code.now members.now count leader fault (length stack.old)) }
     ensures leaves { stack.new ≡ replicate (length stack.old) 0 }
 {
     match block::simulate_block_in(model, code, members, count, leader, fault, stack) {
-        Walk::NoRoom { at } => Trace::NoRoom { at },
-        Walk::Failed { count: block } => Trace::Traced {
+        Walk::NoRoom { at } => Err(at),
+        Walk::Failed { count: block } => Ok(Traced {
             scan,
             block,
             cause: None,
-        },
+        }),
         Walk::Done {
             height,
             count: block,
         } => {
             let cause = slot_from(stack, height, depth);
             clear(&mut stack[..height]);
-            Trace::Traced { scan, block, cause }
+            Ok(Traced { scan, block, cause })
         }
     }
 }
 
-// Traces the cause of a fault, in a model, whose reference lies at a depth.
+// Traces the cause of a fault, in a model, whose reference lies at a depth. An Err is the index at which the lent stack lacks room.
 pub fn trace_cause(
     model: Model,
     code: &[u8],
@@ -80,7 +73,7 @@ pub fn trace_cause(
     fault: usize,
     depth: usize,
     stack: &mut [u64],
-) -> Trace
+) -> Result<Traced, usize>
     ensures answers { result ≡ traced model code.now members.now count fault depth (length stack.old) }
     ensures leaves { stack.new ≡ replicate (length stack.old) 0 }
 {
@@ -90,11 +83,11 @@ pub fn trace_cause(
         ),
         Err(Scanned { at: _, count: scan }) => {
             clear(stack);
-            Trace::Traced {
+            Ok(Traced {
                 scan,
                 block: 0,
                 cause: None,
-            }
+            })
         }
     }
 }

@@ -1,6 +1,6 @@
 -- Two wordings differ in one word. What fails and its cause are the same; only the words of the action are looked at.
 -- Assumes nothing.
-use Rattle.std.specs.Prelude.{Option}
+use Rattle.std.specs.Prelude.{Option, Result, Err, Ok}
 use Prim.Native.Nat.{ℕ, zero, suc, ◌+◌, ◌-◌}
 use native.Mathlib.Omega.{arith}
 use mathlib.Core.Path.{◌≡◌, refl, ◌∙◌, sym, ap}
@@ -8,6 +8,7 @@ use mathlib.Core.Bool.{Bool}
 use mathlib.Core.List.{List, ◌++◌}
 use lib.Dec.{eqb}
 use Rattle.cell.specs.declared.Load.{Load}
+use Rattle.trace.specs.declared.Traced.{Traced}
 use Rattle.basics.specs.Ascii.{ascii}
 use Rattle.basics.specs.Bytes.{u16_at}
 use Rattle.basics.specs.Choice.{pick, both, between}
@@ -26,8 +27,6 @@ use Rattle.action.specs.Action.{action_text}
 use Rattle.message.specs.Message.{cause_text, message_text}
 use Rattle.answer.specs.Answer.{kind_of, silent, roomless, said}
 use Rattle.report.specs.Report.{traced_in, message_of, said_by, said_at, said_in}
-use Rattle.trace.specs.declared.Trace.{Trace}
-use Rattle.trace.specs.declared.Trace.TheVariants.{NoRoom, Traced}
 use Rattle.words.specs.Words.{element_text, array_text}
 use Rattle.words.specs.Wording.{byte_text}
 use Rattle.words.specs.declared.Wording.{Wording}
@@ -62,23 +61,23 @@ module _ (model : Model) (p : Parts) (room : ℕ) (begin : List ℕ) (a : Acts (
       (constructs p.members p.member_count (u16_at p.code (p.fault + 1))) (u16_at p.code (p.fault + 1))
 
   by_trace :
-      (t : Trace) → said_by Byte p a.action t ≡ said message kind scan block →
+      (t : Result Traced ℕ) → said_by Byte p a.action t ≡ said message kind scan block →
       (behind : List ℕ) × (message ≡ begin ++ ascii "byte array" ++ behind)
       × (said_by ByteBoolean p a.action t ≡ said (begin ++ ascii "byte/boolean array" ++ behind) kind scan block)
-  by_trace (NoRoom index) told = let z : ◌≡◌ {A = ℕ} 0 1 = cc in absurd (omega arith)
-  by_trace (Traced s count cause) told =
-      let words : message_of Byte p a.action cause ≡ message = cc in
-      let kinds : kind_of cause ≡ kind = cc in
-      let scans : s ≡ scan = cc in
-      let counts : count ≡ block = cc in
-      (cause_of p cause, sym words ∙ a.words Byte p cause, rw (a.words ByteBoolean p cause, kinds, scans, counts))
+  by_trace (Err index) told = absurd cc
+  by_trace (Ok t) told =
+      let words : message_of Byte p a.action t.cause ≡ message = cc in
+      let kinds : kind_of t.cause ≡ kind = cc in
+      let scans : t.scan ≡ scan = cc in
+      let counts : t.block ≡ block = cc in
+      (cause_of p t.cause, sym words ∙ a.words Byte p t.cause, rw (a.words ByteBoolean p t.cause, kinds, scans, counts))
 
   by_depth :
       (d : Depth) → said_at (in_wording1 model) p room (failed_at d a.action) ≡ said message kind scan block →
       (behind : List ℕ) × (message ≡ begin ++ ascii "byte array" ++ behind)
       × (said_at (in_wording2 model) p room (failed_at d a.action)
       ≡ said (begin ++ ascii "byte/boolean array" ++ behind) kind scan block)
-  by_depth nowhere told = let z : ◌≡◌ {A = ℕ} 0 1 = cc in absurd (omega arith)
+  by_depth nowhere told = absurd cc
   by_depth (at d) told = by_trace (traced_in model p d room) told
 
   that_word : said_in (in_wording1 model) p room ≡ said message kind scan block → ButThatWord model p room begin message kind scan block
@@ -128,11 +127,11 @@ module _ (p : Parts) where
     unfoldable Same : Fault → Type 0
     Same f = said_at (in_wording2 model) p room f ≡ said_at (in_wording1 model) p room f
 
-    by_cause : (action : Action) → Alike action → (t : Trace) → said_by ByteBoolean p action t ≡ said_by Byte p action t
+    by_cause : (action : Action) → Alike action → (t : Result Traced ℕ) → said_by ByteBoolean p action t ≡ said_by Byte p action t
     unfolding message_of message_text Alike
-    by_cause action same (NoRoom index) = refl
-    by_cause action same (Traced scan block cause) =
-        ap (λ (text : List ℕ). said (text ++ cause_of p cause) (kind_of cause) scan block) same
+    by_cause action same (Err index) = refl
+    by_cause action same (Ok t) =
+        ap (λ (text : List ℕ). said (text ++ cause_of p t.cause) (kind_of t.cause) t.scan t.block) same
 
     by_action : (action : Action) → Alike action → (d : Depth) → Same (failed_at d action)
     unfolding Same
@@ -151,9 +150,9 @@ module _ (p : Parts) where
     -- ---- no room
 
     lacking_trace :
-        (action : Action) (t : Trace) (index : ℕ) → said_by Byte p action t ≡ roomless index → said_by ByteBoolean p action t ≡ roomless index
-    lacking_trace action (NoRoom other) index e = e
-    lacking_trace action (Traced scan block cause) index e = let z : ◌≡◌ {A = ℕ} 0 1 = cc in absurd (omega arith)
+        (action : Action) (t : Result Traced ℕ) (index : ℕ) → said_by Byte p action t ≡ roomless index → said_by ByteBoolean p action t ≡ roomless index
+    lacking_trace action (Err other) index e = e
+    lacking_trace action (Ok t) index e = absurd cc
 
     lacking_fault : (f : Fault) (index : ℕ) → said_at (in_wording1 model) p room f ≡ roomless index → said_at (in_wording2 model) p room f ≡ roomless index
     lacking_fault Nothing index e = e

@@ -11,6 +11,7 @@ use Rattle.effects.specs.Rows.{rows_of}
 use Rattle.walk.specs.Walk.{Effect, effect_by}
 use Rattle.instruction.specs.Code.{effect_from, bare}
 use Rattle.instruction.proofs.Laws.{looks_alike}
+use Rattle.std.proofs.lemmas.Result.{err_from_is_err_and}
 use Rattle.block.proofs.Stepping as stepping
 use Rattle.block.proofs.step_at.Goals as goal
 use Rattle.block.proofs.step_at.Goals.{After-effect_of-effect}
@@ -33,25 +34,20 @@ known c =
     c.effect_of-effect.ensures
     ∙ ap₂ effect (looks_alike a.members.now a.count a.table.now c.requires.indexed) c.key_at-key.ensures
 
-pub returns-in-Refused : goal.returns-in-Refused
-returns-in-Refused c =
+pub returns-in_err-next : goal.returns-in_err-next
+returns-in_err-next c =
     let a = c.args in
-    stepping.stops_at (rows_of a.model) (lookup_in a.members.now a.count) a.code.now a.fault a.pc a.stack.now
-    (take a.height a.stack.now) (omega arith) _ (known (goal.at.returns-in-Refused c).After-effect_of-effect) _
-    (rw c.in-Refused.is at c.apply.ensures)
+    let told = err_from_is_err_and c.from_residual.result c.from_residual.ensures.1 in
+    rw (told.1, told.2)
+    (stepping.halts_at (rows_of a.model) (lookup_in a.members.now a.count) a.code.now a.fault a.pc a.stack.now
+    (take a.height a.stack.now) (omega arith) _ (known (goal.at.returns-in_err-next c).After-effect_of-effect) _ _
+    c.in_err-next.ensures)
 
-pub returns-in-Over : goal.returns-in-Over
-returns-in-Over c =
-    let a = c.args in
-    stepping.lacks_at (rows_of a.model) (lookup_in a.members.now a.count) a.code.now a.fault a.pc a.stack.now
-    (take a.height a.stack.now) (omega arith) _ (known (goal.at.returns-in-Over c).After-effect_of-effect) _
-    (rw c.in-Over.is at c.apply.ensures)
-
-pub returns-in-High : goal.returns-in-High
-returns-in-High c =
+pub returns : goal.returns
+returns c =
     let a = c.args in
     let size = c.size_by-size.ensures ∙ ap key_length c.key_at-key.ensures in
     stepping.lands_at (rows_of a.model) (lookup_in a.members.now a.count) a.code.now a.fault a.pc a.stack.now
-    (take a.height a.stack.now) (omega arith) _ (known (goal.at.returns-in-High c).After-effect_of-effect) _ _ _ _ size
-    (rw c.in-High.is at c.apply.ensures)
+    (take a.height a.stack.now) (omega arith) _ (known (goal.at.returns c).After-effect_of-effect) _ _ _ _ size
+    c.in_ok-next.ensures
     c.land.ensures

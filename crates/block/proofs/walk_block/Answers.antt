@@ -37,10 +37,10 @@ give_up-requires c =
     let a = c.args in
     looping.clean_stopped (rows_of a.model) a.code.now a.members.now a.count a.leader a.fault a.stack.now _
     c.clear.ensures at.stack at.pc at.height at.completed at.invariant _
-    (rw c.in-Stops.is at c.step_at.ensures)
+    (rw c.in-Err-Stops.field-0-is at c.in-Err-Stops.ensures)
 
-pub returns-in-Stops : goal.returns-in-Stops
-returns-in-Stops c =
+pub returns-in-Err-Stops : goal.returns-in-Err-Stops
+returns-in-Err-Stops c =
     let at = c.loop-pc in
     let a = c.args in
     rw c.give_up.ensures.answers
@@ -48,39 +48,39 @@ returns-in-Stops c =
     (looping.ends_stopped (rows_of a.model) a.code.now a.members.now a.count a.leader a.fault a.stack.now _
     c.clear.ensures at.stack at.pc at.height at.completed at.invariant _ _
     c.give_up.ensures.leaves c.loop-pc-test.true
-    (rw c.in-Stops.is at c.step_at.ensures)))
+    (rw c.in-Err-Stops.field-0-is at c.in-Err-Stops.ensures)))
 
-pub give_up-requires-in-Lacks : goal.give_up-requires-in-Lacks
-give_up-requires-in-Lacks c =
+pub give_up-requires-in-Err-Lacks : goal.give_up-requires-in-Err-Lacks
+give_up-requires-in-Err-Lacks c =
     let at = c.loop-pc in
     let a = c.args in
     looping.clean_lacked (rows_of a.model) a.code.now a.members.now a.count a.leader a.fault a.stack.now _
     c.clear.ensures at.stack at.pc at.height at.completed at.invariant _
-    (rw c.in-Lacks.is at c.step_at.ensures)
+    (rw c.in-Err-Lacks.field-0-is at c.in-Err-Lacks.ensures)
 
-pub returns-in-Lacks : goal.returns-in-Lacks
-returns-in-Lacks c =
+pub returns-in-Err-Lacks : goal.returns-in-Err-Lacks
+returns-in-Err-Lacks c =
     let at = c.loop-pc in
     let a = c.args in
-    rw c.give_up-in-Lacks.ensures.answers
+    rw c.give_up-in-Err-Lacks.ensures.answers
     (looping.walks a.model _ _ _ _ _ _ _ _
     (looping.ends_lacked (rows_of a.model) a.code.now a.members.now a.count a.leader a.fault a.stack.now _
     c.clear.ensures at.stack at.pc at.height at.completed at.invariant _ _
-    c.give_up-in-Lacks.ensures.leaves c.loop-pc-test.true
-    (rw c.in-Lacks.is at c.step_at.ensures)))
+    c.give_up-in-Err-Lacks.ensures.leaves c.loop-pc-test.true
+    (rw c.in-Err-Lacks.field-0-is at c.in-Err-Lacks.ensures)))
 
 pub overflow_add-result : goal.overflow_add-result
 overflow_add-result c = omega (arith, counted (goal.at.overflow_add-result c).After-step_at)
 
-pub returns-in-Passes : goal.returns-in-Passes
-returns-in-Passes c =
+pub returns-in-Err-Passes : goal.returns-in-Err-Passes
+returns-in-Err-Passes c =
     let at = c.loop-pc in
     let a = c.args in
     looping.walks a.model _ _ _ _ _ _ _ _
     (looping.ends_passed (rows_of a.model) a.code.now a.members.now a.count a.leader a.fault a.stack.now _
     c.clear.ensures at.stack at.pc at.height at.completed at.invariant _ _
-    c.clear-in-Passes.ensures c.loop-pc-test.true (omega arith)
-    (rw c.in-Passes.is at c.step_at.ensures))
+    c.clear-in-Err-Passes.ensures c.loop-pc-test.true (omega arith)
+    (rw c.in-Err-Passes.field-0-is at c.in-Err-Passes.ensures))
 
 pub overflow_add-completed : goal.overflow_add-completed
 overflow_add-completed c = omega (arith, counted (goal.at.overflow_add-completed c).After-step_at)
@@ -92,7 +92,7 @@ loop-pc-smaller c =
     let bytes : AreBytes a.code.now = λ i. (c.type_inv.code i).fits in
     let on = looping.up (rows_of a.model) a.code.now a.members.now a.count a.leader a.fault (length c.clear.new.stack)
     at.stack at.pc at.height at.completed at.invariant (model_sized a.model) bytes c.loop-pc-test.true _ _ _
-    (rw c.in-Goes.is at c.step_at.ensures) in
+    (rw c.in-Ok.is at c.step_at.ensures) in
     omega (arith, on, c.loop-pc-test.true)
 
 pub loop-pc-preserved : goal.loop-pc-preserved
@@ -102,7 +102,7 @@ loop-pc-preserved c =
     let bytes : AreBytes a.code.now = λ i. (c.type_inv.code i).fits in
     looping.again (rows_of a.model) a.code.now a.members.now a.count a.leader a.fault (length c.clear.new.stack)
     at.stack at.pc at.height at.completed at.invariant (model_sized a.model) bytes c.loop-pc-test.true _ _ _
-    (rw c.in-Goes.is at c.step_at.ensures)
+    (rw c.in-Ok.is at c.step_at.ensures)
 
 pub returns-then-pc-fault : goal.returns-then-pc-fault
 returns-then-pc-fault c =

@@ -15,24 +15,24 @@ returns-in_default c =
     reporting.is_silent a.manner p (length a.stack.now) a.out.now
     (sym c.decode_fault.ensures ∙ c.in_default.is) in record { delivers = told; clears = c.clear.ensures }
 
-pub returns-in-NoRoom : goal.returns-in-NoRoom
-returns-in-NoRoom c =
+pub returns-in-Err : goal.returns-in-Err
+returns-in-Err c =
     let a = c.args in
     let p = parts_by a.flags a.at a.code.now a.signature.now a.members.now a.member_count
     a.records.now a.record_count in
     let told =
     reporting.is_roomless a.manner p (length a.stack.now) a.out.now _ _ _
     (sym c.decode_fault.ensures ∙ c.in-Failed.is)
-    (sym c.trace_cause.ensures.answers ∙ c.in-NoRoom.is) in record { delivers = told; clears = c.trace_cause.ensures.leaves }
+    (sym c.trace_cause.ensures.answers ∙ c.in-Err.is) in record { delivers = told; clears = c.trace_cause.ensures.leaves }
 
-pub returns-in-Traced : goal.returns-in-Traced
-returns-in-Traced c =
+pub returns-in-Ok : goal.returns-in-Ok
+returns-in-Ok c =
     let a = c.args in
     let p = parts_by a.flags a.at a.code.now a.signature.now a.members.now a.member_count
     a.records.now a.record_count in
     let told =
     reporting.is_said a.manner p (length a.stack.now) a.out.now _ _ _ _ _
     (sym c.decode_fault.ensures ∙ c.in-Failed.is)
-    (sym c.trace_cause.ensures.answers ∙ c.in-Traced.is) _
+    (sym c.trace_cause.ensures.answers ∙ c.in-Ok.is) _
     c.is_instance-instance.ensures _ _
     c.write_message.ensures in record { delivers = told; clears = c.trace_cause.ensures.leaves }
