@@ -9,29 +9,13 @@ ghost use Rattle.copies.specs.Copies.{copied_below};
 pub fn copy_below(cells: &mut [u64], height: usize, count: usize, under: usize)
     ensures { cells.new ≡ copied_below cells.old height count under }
 {
-    if height < count {
+    if height < count || height - count < under {
         return;
     }
-    if height - count < under {
-        return;
-    }
-    if cells.len() < height {
-        return;
-    }
-    if cells.len() - height < count {
+    if cells.len() < height || cells.len() - height < count {
         return;
     }
     let start = height - count - under;
-    // where none lie under them, the copied cells stay in their places
-    let none = under == 0;
-    let last = if none { height } else { start };
-    let mut i = height + count;
-    while last < i {
-        i -= 1;
-        if i < start + count {
-            cells[i] = cells[i + count + under];
-        } else {
-            cells[i] = cells[i - count];
-        }
-    }
+    cells.copy_within(start..height, start + count);
+    cells.copy_within(height..height + count, start);
 }

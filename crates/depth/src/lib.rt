@@ -10,11 +10,8 @@ use opcode::Opcode;
 pub fn store_depth(op: u8) -> usize
     ensures { result ≡ store_depth op }
 {
-    if op == Opcode::LASTORE {
-        return 3;
+    match op {
+        Opcode::LASTORE | Opcode::DASTORE => 3,
+        _ => 2,
     }
-    if op == Opcode::DASTORE {
-        return 3;
-    }
-    2
 }

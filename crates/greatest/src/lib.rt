@@ -1,5 +1,5 @@
 // A running maximum over leaders (document 01, "What changes shape").
-#![tactic(auto)]
+#![tactic(auto, unfolding(crate::specs::Greatest::up_to, crate::specs::Greatest::greatest, crate::specs::Greatest::target))]
 
 ghost use Rattle.std.specs.Prelude.{◌≡◌, max};
 ghost use Rattle.greatest.specs.Greatest.{up_to, greatest, target};
@@ -8,20 +8,15 @@ ghost use Rattle.greatest.specs.Greatest.{up_to, greatest, target};
 pub fn raise(fault: usize, best: usize, x: usize) -> usize
     ensures { result ≡ max best (up_to fault x) }
 {
-    if x <= fault {
-        if best < x {
-            return x;
-        }
-    }
-    best
+    if x <= fault { best.max(x) } else { best }
 }
 
 // The same with a target that is given plus half. One below 0 is no leader.
 pub fn aim(half: usize, lifted: usize, fault: usize, best: usize) -> usize
     ensures { result ≡ max best (greatest fault (target half lifted)) }
 {
-    if lifted < half {
+    let Some(target) = lifted.checked_sub(half) else {
         return best;
-    }
-    raise(fault, best, lifted - half)
+    };
+    raise(fault, best, target)
 }

@@ -22,10 +22,8 @@ pub fn key_at(code: &[u8], pc: usize) -> Key
         return Key::Plain(0);
     }
     let op = code[pc];
-    if op == Opcode::WIDE {
-        if 1 < code.len() - pc {
-            return Key::Wide(code[pc + 1]);
-        }
+    if op == Opcode::WIDE && 1 < code.len() - pc {
+        return Key::Wide(code[pc + 1]);
     }
     Key::Plain(op)
 }

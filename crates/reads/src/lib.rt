@@ -10,7 +10,7 @@ ghost use Rattle.reads.specs.Signed.{lifted, i16_at, i32_at};
 pub fn byte_at(code: &[u8], at: usize) -> u8
     ensures { result ≡ byte_at code.now at }
 {
-    if at < code.len() { code[at] } else { 0 }
+    code.get(at).copied().unwrap_or(0)
 }
 
 // The two bytes at an index as a number, most significant first.
