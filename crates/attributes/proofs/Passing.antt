@@ -40,4 +40,4 @@ module _ {A B : Type 0} {tell : Reading A → B} (a : A) {limit : ℕ} {file : L
 
   pub passed_wrong :
       {place : ℕ} → run_of (read_by (passed_over limit (tt {0})) file at) ≡ Err place → Tells tell (passed_over limit a) file at (tell (wrong place))
-  passed_wrong is = record { is = ap tell (failed (read_by (passed_over limit a) file at) (passing a (sym is)).is) }
+  passed_wrong is = record { is = ap tell (failed _ (read_by (passed_over limit a) file at) (passing a (sym is)).is) }

@@ -37,23 +37,6 @@ pub struct LocalPlace {
     pub next: usize,
 }
 
-// What reading an entry of a local table answers.
-#[derive(Clone, Copy)]
-pub enum LocalRead {
-    Read(LocalPlace),
-    // The place of the first wrong item.
-    Wrong(usize),
-}
-
-// What reading a Code answers.
-#[derive(Clone, Copy)]
-pub enum CodeRead {
-    // The code, and the place after its attribute.
-    Read(CodePlace, usize),
-    // The place of the first wrong item.
-    Wrong(usize),
-}
-
 // Whether instructions can be so many bytes.
 fn is_code_length(size: usize) -> bool
     ensures { result ≡ between 1 65535 size }
@@ -96,27 +79,32 @@ pub fn read_handlers(file: &[u8], from: usize, count: usize, limit: usize) -> Re
     Ok(at)
 }
 
-// An entry of a local table.
-pub fn read_local(file: &[u8], table: &[usize], at: usize, limit: usize) -> LocalRead
+// An entry of a local table, or the place of its first wrong item.
+pub fn read_local(
+    file: &[u8],
+    table: &[usize],
+    at: usize,
+    limit: usize,
+) -> Result<LocalPlace, usize>
     ensures { result ≡ record_told (read_by (local_format (names_by file.now table.now) limit) file.now at) }
 {
     let Some((start, size_at)) = read_u2(file, at, limit) else {
-        return LocalRead::Wrong(at);
+        return Err(at);
     };
     let Some((size, name_at)) = read_u2(file, size_at, limit) else {
-        return LocalRead::Wrong(size_at);
+        return Err(size_at);
     };
     let Some((name, descriptor_at)) = read_u2(file, name_at, limit) else {
-        return LocalRead::Wrong(name_at);
+        return Err(name_at);
     };
     if is_name(file, table, name) {
         let Some((_, slot_at)) = read_u2(file, descriptor_at, limit) else {
-            return LocalRead::Wrong(descriptor_at);
+            return Err(descriptor_at);
         };
         let Some((slot, next)) = read_u2(file, slot_at, limit) else {
-            return LocalRead::Wrong(slot_at);
+            return Err(slot_at);
         };
-        return LocalRead::Read(LocalPlace {
+        return Ok(LocalPlace {
             start,
             size,
             name,
@@ -124,7 +112,7 @@ pub fn read_local(file: &[u8], table: &[usize], at: usize, limit: usize) -> Loca
             next,
         });
     }
-    LocalRead::Wrong(name_at)
+    Err(name_at)
 }
 
 // So many entries of a local table.
@@ -141,14 +129,8 @@ fn read_locals(
     let mut at = from;
     let mut left = count;
     while 0 < left {
-        match read_local(file, table, at, limit) {
-            LocalRead::Read(local) => {
-                at = local.next;
-            }
-            LocalRead::Wrong(wrong) => {
-                return Err(wrong);
-            }
-        }
+        let local = read_local(file, table, at, limit)?;
+        at = local.next;
         left -= 1;
     }
     Ok(at)
@@ -237,30 +219,36 @@ pub fn read_tables(file: &[u8], table: &[usize], at: usize, limit: usize) -> Res
     read_code_end(file, table, next, limit)
 }
 
-// A Code, from behind its attribute's length to a limit, which is where the attribute ends.
-pub fn read_code(file: &[u8], table: &[usize], at: usize, limit: usize) -> CodeRead
+// A Code, from behind its attribute's length to a limit, which is where the attribute ends, and the place after it; or the place of its first
+// wrong item.
+pub fn read_code(
+    file: &[u8],
+    table: &[usize],
+    at: usize,
+    limit: usize,
+) -> Result<(CodePlace, usize), usize>
     ensures { result ≡ code_told (read_by (code_format (names_by file.now table.now) limit) file.now at) }
 {
     let Some((_, locals_at)) = read_u2(file, at, limit) else {
-        return CodeRead::Wrong(at);
+        return Err(at);
     };
     let Some((_, code_at)) = read_u2(file, locals_at, limit) else {
-        return CodeRead::Wrong(locals_at);
+        return Err(locals_at);
     };
     let Some((start, stop)) = read_window(file, code_at, limit) else {
-        return CodeRead::Wrong(code_at);
+        return Err(code_at);
     };
     let size = stop.saturating_sub(start);
     if is_code_length(size) {
-        match read_tables(file, table, stop, limit) {
-            Ok(next) => {
-                let stop = limit;
-                return CodeRead::Read(CodePlace { start, size, stop }, next);
-            }
-            Err(wrong) => {
-                return CodeRead::Wrong(wrong);
-            }
-        }
+        let next = read_tables(file, table, stop, limit)?;
+        return Ok((
+            CodePlace {
+                start,
+                size,
+                stop: limit,
+            },
+            next,
+        ));
     }
-    CodeRead::Wrong(code_at)
+    Err(code_at)
 }

@@ -1,7 +1,7 @@
 -- Of a file that is read, the table of its pool's places serves its pool, so that the names by the table are the names by the pool.
 -- Assumes nothing.
+use Rattle.std.specs.Prelude.{Ok}
 use Prim.Native.Nat.{ℕ, ◌-◌, ◌≤◌, ◌<◌}
-use native.Mathlib.Omega.{arith}
 use mathlib.Core.Path.{◌≡◌, refl, ◌∙◌, sym, ap, subst, fun_ext}
 use mathlib.Core.Bool.{false}
 use mathlib.Core.List.{List, ◌∷◌}
@@ -10,46 +10,28 @@ use lib.ListN.{length}
 use borrow.Author.Tests.{eqb-true, ltb-true}
 use Rattle.basics.specs.Bytes.{u16_at, u32_at}
 use Rattle.format.specs.Format.{Format, done, and_then, number_at, Reading, right, wrong, then_read, read_by}
-use Rattle.format.proofs.Items.{two_bytes, four_bytes}
+use Rattle.format.proofs.Items.{two_bytes, four_bytes, was_read}
 use Rattle.format.proofs.Was.{number_was, then_was}
 use Rattle.format.proofs.Reading.{read_then}
-use Rattle.classformat.specs.Contents.{Pool, entry_in, Name, name_of, Methods, ClassFile}
+use Rattle.classformat.specs.Contents.{Pool, entry_in, Name, name_of, ClassFile}
 use Rattle.classformat.specs.ClassFile.{any, u2, pool_format, Start, start_format, rest_format, class_of, class_format}
 use Rattle.classformat.specs.declared.Entry.{Entry}
 use Rattle.classformat.specs.declared.Entry.TheVariants.{Nothing}
 use Rattle.entries.specs.Entries.{names_by, Serves}
 use Rattle.pool.specs.Pool.{places_in, placed}
 use Rattle.pool.proofs.Serving.{table_serves}
-use Rattle.classfile.specs.Class.{start_told, methods_told, start_table, class_by}
-use Rattle.classfile.specs.declared.StartRead.TheVariants as start
-use Rattle.classfile.specs.declared.MethodsRead.TheVariants as methods
+use Rattle.classfile.specs.Class.{start_place, start_told, start_table, class_by}
+use Rattle.classfile.specs.declared.StartPlace.{StartPlace}
 use Rattle.classfile.proofs.Starting.{filled}
 
--- ---- by what the readers tell
-
-pub start_read : (r : Reading Start) {major next : ℕ} → start_told r ≡ start.Read major next → (s : Start) × (r ≡ right s next) × (s.major ≡ major)
-start_read (right s end) {major} {next} e =
-    let same : end ≡ next = cc in
-    let version : s.major ≡ major = cc in
-    (s, ap (right s) same, version)
-start_read (wrong offset) e = let z : ◌≡◌ {A = ℕ} 0 1 = cc in absurd (omega arith)
-
-pub start_wrong : (r : Reading Start) {place : ℕ} → start_told r ≡ start.Wrong place → r ≡ wrong place
-start_wrong (right s end) e = let z : ◌≡◌ {A = ℕ} 0 1 = cc in absurd (omega arith)
-start_wrong (wrong offset) {place} e = let same : offset ≡ place = cc in ap wrong same
-
-pub methods_read :
-    (r : Reading Methods) {from count : ℕ} → methods_told r ≡ methods.Read from count →
-    (m : Methods) × (end : ℕ) × (r ≡ right m end) × (m.from ≡ from) × (length m.methods ≡ count)
-methods_read (right m end) {from} {count} e =
-    let place : m.from ≡ from = cc in
-    let many : length m.methods ≡ count = cc in
-    (m, end, refl, place, many)
-methods_read (wrong offset) e = let z : ◌≡◌ {A = ℕ} 0 1 = cc in absurd (omega arith)
-
-pub methods_wrong : (r : Reading Methods) {place : ℕ} → methods_told r ≡ methods.Wrong place → r ≡ wrong place
-methods_wrong (right m end) e = let z : ◌≡◌ {A = ℕ} 0 1 = cc in absurd (omega arith)
-methods_wrong (wrong offset) {place} e = let same : offset ≡ place = cc in ap wrong same
+-- by what its reader tells, a start is read
+pub start_read :
+    (r : Reading Start) {place : StartPlace} → start_told r ≡ Ok place →
+    (s : Start) × (r ≡ right s place.next) × (start_place s place.next ≡ place)
+start_read r {place} e =
+    let w = was_read start_place r e in
+    let next = ap (λ (p : StartPlace). p.next) w.3 in
+    (w.0, w.2 ∙ ap (right w.0) next, sym (ap (start_place w.0) next) ∙ w.3)
 
 -- ---- the start of a file that is read
 

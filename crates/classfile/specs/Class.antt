@@ -1,31 +1,35 @@
 -- What the readers of a class file tell, the table that they leave, and the format by that table.
 -- Assumes nothing.
-use Rattle.std.specs.Prelude.{ℕ, Bool, List, eqb, leb, ltb, length}
+use Rattle.std.specs.Prelude.{ℕ, Bool, List, eqb, leb, ltb, length, Result}
 use Rattle.basics.specs.Bytes.{u16_at, u32_at}
 use Rattle.basics.specs.Choice.{pick, both}
-use Rattle.format.specs.Format.{Format, done, and_then, Reading, right, wrong}
+use Rattle.format.specs.Format.{Format, done, and_then, Reading}
+use Rattle.format.specs.Items.{told_by}
 use Rattle.classformat.specs.Contents.{Methods, ClassFile}
 use Rattle.classformat.specs.ClassFile.{Start, start_format, rest_format, class_of}
 use Rattle.entries.specs.Entries.{names_by}
 use Rattle.pool.specs.Pool.{places_in, placed}
-use Rattle.classfile.specs.declared.StartRead.{StartRead}
-use Rattle.classfile.specs.declared.StartRead.TheVariants as start
-use Rattle.classfile.specs.declared.MethodsRead.{MethodsRead}
-use Rattle.classfile.specs.declared.MethodsRead.TheVariants as methods
-use Rattle.classfile.specs.declared.ClassRead.{ClassRead}
-use Rattle.classfile.specs.declared.ClassRead.TheVariants as class
+use Rattle.classfile.specs.declared.StartPlace.{StartPlace}
+use Rattle.classfile.specs.declared.MethodsPlace.{MethodsPlace}
+use Rattle.classfile.specs.declared.ClassPlace.{ClassPlace}
 
-abbrev pub start_told : Reading Start → StartRead
-start_told (right s end) = start.Read s.major end
-start_told (wrong offset) = start.Wrong offset
+abbrev pub start_place : Start → ℕ → StartPlace
+start_place s end = record { major = s.major; next = end }
 
-abbrev pub methods_told : Reading Methods → MethodsRead
-methods_told (right m end) = methods.Read m.from (length m.methods)
-methods_told (wrong offset) = methods.Wrong offset
+abbrev pub start_told : Reading Start → Result StartPlace ℕ
+start_told r = told_by start_place r
 
-abbrev pub class_told : Reading ClassFile → ClassRead
-class_told (right c end) = class.Read c.major c.from (length c.methods)
-class_told (wrong offset) = class.Wrong offset
+abbrev pub methods_place : Methods → ℕ → MethodsPlace
+methods_place m end = record { from = m.from; count = length m.methods }
+
+abbrev pub methods_told : Reading Methods → Result MethodsPlace ℕ
+methods_told r = told_by methods_place r
+
+abbrev pub class_place : ClassFile → ℕ → ClassPlace
+class_place c end = record { major = c.major; from = c.from; count = length c.methods }
+
+abbrev pub class_told : Reading ClassFile → Result ClassPlace ℕ
+class_told r = told_by class_place r
 
 -- ---- the table of the pool's places
 

@@ -18,65 +18,54 @@ use pool::read_pool;
 // The first four bytes of every class file.
 const MAGIC: usize = 0xcafebabe;
 
-// What reading the start of a class file answers.
+// The start of a class file: its major version, and the place after its constant pool.
 #[derive(Clone, Copy)]
-pub enum StartRead {
-    // The major version, and the place after the constant pool.
-    Read { major: usize, next: usize },
-    // The place of the first wrong item.
-    Wrong(usize),
+pub struct StartPlace {
+    pub major: usize,
+    pub next: usize,
 }
 
-// What reading the methods of a class file answers.
+// The methods of a class file: where the first one stands, and how many they are.
 #[derive(Clone, Copy)]
-pub enum MethodsRead {
-    // Where the first one stands, and how many they are.
-    Read { from: usize, count: usize },
-    // The place of the first wrong item.
-    Wrong(usize),
+pub struct MethodsPlace {
+    pub from: usize,
+    pub count: usize,
 }
 
-// What reading a class file answers.
+// A class file: its major version, where its first method stands, and how many methods there are.
 #[derive(Clone, Copy)]
-pub enum ClassRead {
-    // The major version, where the first method stands, and how many methods there are.
-    Read {
-        major: usize,
-        from: usize,
-        count: usize,
-    },
-    // The place of the first wrong item.
-    Wrong(usize),
+pub struct ClassPlace {
+    pub major: usize,
+    pub from: usize,
+    pub count: usize,
 }
 
 // Magic, version and constant pool.
-fn read_start(file: &[u8], table: &mut [usize]) -> StartRead
+fn read_start(file: &[u8], table: &mut [usize]) -> Result<StartPlace, usize>
     ensures answers { result ≡ start_told (read_by (start_format (length file.now)) file.now 0) }
     ensures keeps { table.new ≡ start_table file.now table.old }
 {
     let limit = file.len();
     let Some((magic, minor_at)) = read_u4(file, 0, limit) else {
-        return StartRead::Wrong(0);
+        return Err(0);
     };
     if magic == MAGIC {
         let Some((_, major_at)) = read_u2(file, minor_at, limit) else {
-            return StartRead::Wrong(minor_at);
+            return Err(minor_at);
         };
         let Some((major, count_at)) = read_u2(file, major_at, limit) else {
-            return StartRead::Wrong(major_at);
+            return Err(major_at);
         };
         let Some((count, _)) = read_u2(file, count_at, limit) else {
-            return StartRead::Wrong(count_at);
+            return Err(count_at);
         };
         if 0 < count {
-            return match read_pool(file, count, table) {
-                Ok(next) => StartRead::Read { major, next },
-                Err(wrong) => StartRead::Wrong(wrong),
-            };
+            let next = read_pool(file, count, table)?;
+            return Ok(StartPlace { major, next });
         }
-        return StartRead::Wrong(count_at);
+        return Err(count_at);
     }
-    StartRead::Wrong(0)
+    Err(0)
 }
 
 // What stands between the constant pool and the fields.
@@ -123,47 +112,44 @@ fn read_end(file: &[u8], table: &[usize], at: usize, limit: usize) -> Result<usi
 }
 
 // The methods, from their count on, and what stands behind them.
-fn read_method_table(file: &[u8], table: &[usize], at: usize, limit: usize) -> MethodsRead
+fn read_method_table(
+    file: &[u8],
+    table: &[usize],
+    at: usize,
+    limit: usize,
+) -> Result<MethodsPlace, usize>
     ensures { result ≡ methods_told (read_by (methods_format (names_by file.now table.now) limit) file.now at) }
 {
     let Some((count, from)) = read_u2(file, at, limit) else {
-        return MethodsRead::Wrong(at);
+        return Err(at);
     };
-    match read_methods(file, table, from, count, limit) {
-        Ok(next) => match read_end(file, table, next, limit) {
-            Ok(_) => MethodsRead::Read { from, count },
-            Err(wrong) => MethodsRead::Wrong(wrong),
-        },
-        Err(wrong) => MethodsRead::Wrong(wrong),
-    }
+    let next = read_methods(file, table, from, count, limit)?;
+    read_end(file, table, next, limit)?;
+    Ok(MethodsPlace { from, count })
 }
 
 // What stands behind the constant pool.
-fn read_rest(file: &[u8], table: &[usize], at: usize, limit: usize) -> MethodsRead
+fn read_rest(file: &[u8], table: &[usize], at: usize, limit: usize) -> Result<MethodsPlace, usize>
     ensures { result ≡ methods_told (read_by (rest_format (names_by file.now table.now) limit) file.now at) }
 {
-    match read_head(file, at, limit) {
-        Ok(fields_at) => match read_field_table(file, table, fields_at, limit) {
-            Ok(methods_at) => read_method_table(file, table, methods_at, limit),
-            Err(wrong) => MethodsRead::Wrong(wrong),
-        },
-        Err(wrong) => MethodsRead::Wrong(wrong),
-    }
+    let fields_at = read_head(file, at, limit)?;
+    let methods_at = read_field_table(file, table, fields_at, limit)?;
+    read_method_table(file, table, methods_at, limit)
 }
 
-// Reads a class file. With a cell for each pool number the answer is the format's, and where the file is right the table then serves its pool.
+// Reads a class file, or answers the place of its first wrong item. With a cell for each pool number the answer is the format's, and where the file is right the table then serves its pool.
 // With fewer cells, a number that has none leads to nothing.
-pub fn read_class(file: &[u8], table: &mut [usize]) -> ClassRead
+pub fn read_class(file: &[u8], table: &mut [usize]) -> Result<ClassPlace, usize>
     ensures shows { result ≡ class_told (read_by (class_by file.now table.new) file.now 0) }
     ensures keeps { table.new ≡ start_table file.now table.old }
     ensures answers { u16_at file.now 8 ≤ length table.old →
         result ≡ class_told (read_by (class_format file.now) file.now 0) }
 {
-    match read_start(file, table) {
-        StartRead::Read { major, next } => match read_rest(file, table, next, file.len()) {
-            MethodsRead::Read { from, count } => ClassRead::Read { major, from, count },
-            MethodsRead::Wrong(wrong) => ClassRead::Wrong(wrong),
-        },
-        StartRead::Wrong(wrong) => ClassRead::Wrong(wrong),
-    }
+    let start = read_start(file, table)?;
+    let methods = read_rest(file, table, start.next, file.len())?;
+    Ok(ClassPlace {
+        major: start.major,
+        from: methods.from,
+        count: methods.count,
+    })
 }

@@ -14,7 +14,7 @@ use borrow.Author.Tests.{le-leb, lt-leb, leb-true, leb-false}
 use Rattle.basics.specs.Bytes.{u16_at, u32_at}
 use Rattle.basics.specs.Choice.{pick, both}
 use Rattle.format.specs.Format.{Format, number, text, window as windowed, full, here, done, and_then, times, each, number_at, bytes_at, Reading, right, wrong, then_read, go_on, window_right, read_by}
-use Rattle.format.specs.Items.{item_at, window_at, run_of}
+use Rattle.format.specs.Items.{item_at, window_at, told_by, run_of}
 use Rattle.format.proofs.Reading.{read_then}
 
 -- what a `?` answers is the wrong place that it met
@@ -209,14 +209,26 @@ all_done = record { is = refl }
 
 -- ---- one format behind another
 
--- a run that ended has read something, and one that did not has a first wrong item
-pub ended : {A : Type 0} (r : Reading A) {next : ℕ} → run_of r ≡ Ok next → (a : A) × (r ≡ right a next)
-ended (right a end) {next} e = let same : end ≡ next = cc in (a, ap (right a) same)
-ended (wrong place) e = let z : ◌≡◌ {A = ℕ} 0 1 = cc in absurd (omega arith)
+-- by what is told of it, a reading came to something, or it has a first wrong item
+module _ {A B : Type 0} (make : A → ℕ → B) where
+  pub was_read : (r : Reading A) {b : B} → told_by make r ≡ Ok b → (a : A) × (end : ℕ) × (r ≡ right a end) × (make a end ≡ b)
+  was_read (right a end) {b} e = let same : make a end ≡ b = cc in (a, end, refl, same)
+  was_read (wrong place) e = let z : ◌≡◌ {A = ℕ} 0 1 = cc in absurd (omega arith)
 
-pub failed : {A : Type 0} (r : Reading A) {place : ℕ} → run_of r ≡ Err place → r ≡ wrong place
-failed (right a end) e = let z : ◌≡◌ {A = ℕ} 0 1 = cc in absurd (omega arith)
-failed (wrong offset) {place} e = let same : offset ≡ place = cc in ap wrong same
+  pub failed : (r : Reading A) {place : ℕ} → told_by make r ≡ Err place → r ≡ wrong place
+  failed (right a end) e = let z : ◌≡◌ {A = ℕ} 0 1 = cc in absurd (omega arith)
+  failed (wrong offset) {place} e = let same : offset ≡ place = cc in ap wrong same
+
+pub ended : {A : Type 0} (r : Reading A) {next : ℕ} → run_of r ≡ Ok next → (a : A) × (r ≡ right a next)
+ended r e = let w = was_read (λ a end. end) r e in (w.0, w.2 ∙ ap (right w.0) w.3)
+
+-- where the place after it is told beside what is made
+pub pair_read :
+    {A B : Type 0} (make : A → B) (r : Reading A) {b : B} {next : ℕ} → told_by {B = B × ℕ} (λ a end. (make a, end)) r ≡ Ok (b, next) →
+    (a : A) × (r ≡ right a next) × (make a ≡ b)
+pair_read {A} {B} make r e =
+    let w = was_read {B = B × ℕ} (λ a end. (make a, end)) r e in
+    (w.0, w.2 ∙ ap (right w.0) (ap (λ (p : B × ℕ). p.1) w.3), ap (λ (p : B × ℕ). p.0) w.3)
 
 module _ {A B C : Type 0} {tell : Reading B → C} (format : Format A) (rest : A → Format B) {file : List ℕ} {at : ℕ} where
   pub then-read :
@@ -224,12 +236,12 @@ module _ {A B C : Type 0} {tell : Reading B → C} (format : Format A) (rest : A
       Tells tell (and_then format rest) file at answer
   then-read is onward = record { is = ap tell (read_then rest file format at) ∙ ap (λ (r : Reading A). tell (then_read r (λ a next. read_by (rest a) file next))) is ∙ onward.is }
 
-  pub then_failed : {place : ℕ} → read_by format file at ≡ wrong place → Tells tell (and_then format rest) file at (tell (wrong place))
-  then_failed is = record { is = ap tell (read_then rest file format at) ∙ ap (λ (r : Reading A). tell (then_read r (λ a next. read_by (rest a) file next))) is }
-
   pub then_wrong :
-      {place : ℕ} → run_of (read_by format file at) ≡ Err place → Tells tell (and_then format rest) file at (tell (wrong place))
-  then_wrong is = then_failed (failed (read_by format file at) is)
+      {D : Type 0} (make : A → ℕ → D) {place : ℕ} → told_by make (read_by format file at) ≡ Err place →
+      Tells tell (and_then format rest) file at (tell (wrong place))
+  then_wrong make is =
+      let read = failed make (read_by format file at) is in
+      record { is = ap tell (read_then rest file format at) ∙ ap (λ (r : Reading A). tell (then_read r (λ a next. read_by (rest a) file next))) read }
 
   pub then_right :
       {next : ℕ} {answer : C} → run_of (read_by format file at) ≡ Ok next → ((a : A) → Tells tell (rest a) file next answer) →
@@ -252,10 +264,11 @@ then_done {A} format make {file} {at} =
 
 module _ {A : Type 0} (one : Format A) {file : List ℕ} {at : ℕ} where
   pub turn_wrong :
-      (left : ℕ) {place : ℕ} → 0 < left → run_of (read_by one file at) ≡ Err place → Tells run_of (times left one) file at (Err place)
+      {B : Type 0} (make : A → ℕ → B) (left : ℕ) {place : ℕ} → 0 < left → told_by make (read_by one file at) ≡ Err place →
+      Tells run_of (times left one) file at (Err place)
   unfolding times
-  turn_wrong zero some is = absurd (omega arith)
-  turn_wrong (suc n) some is = then_wrong one (λ a. and_then (times n one) (λ more. done (a ∷ more))) is
+  turn_wrong make zero some is = absurd (omega arith)
+  turn_wrong make (suc n) some is = then_wrong one (λ a. and_then (times n one) (λ more. done (a ∷ more))) make is
 
   pub turn_right :
       (left : ℕ) {next : ℕ} → 0 < left → run_of (read_by one file at) ≡ Ok next →
@@ -273,11 +286,12 @@ module _ {A : Type 0} (one : Format A) {file : List ℕ} {at : ℕ} where
 
 -- the same where each is by what came of those before it
 module _ {A B : Type 0} {tell : Reading A → B} (one : A → Format A) (a : A) {file : List ℕ} {at : ℕ} where
-  pub each_failed :
-      (left : ℕ) {place : ℕ} → 0 < left → read_by (one a) file at ≡ wrong place → Tells tell (each left one a) file at (tell (wrong place))
+  pub each_wrong :
+      {C : Type 0} (make : A → ℕ → C) (left : ℕ) {place : ℕ} → 0 < left → told_by make (read_by (one a) file at) ≡ Err place →
+      Tells tell (each left one a) file at (tell (wrong place))
   unfolding each
-  each_failed zero some is = absurd (omega arith)
-  each_failed (suc n) some is = then_failed (one a) (λ b. each n one b) is
+  each_wrong make zero some is = absurd (omega arith)
+  each_wrong make (suc n) some is = then_wrong (one a) (λ b. each n one b) make is
 
   pub each_read :
       (left : ℕ) {b : A} {next : ℕ} {answer : B} → 0 < left → read_by (one a) file at ≡ right b next →

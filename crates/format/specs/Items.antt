@@ -13,7 +13,11 @@ unfoldable pub window_at : ℕ → ℕ → List ℕ → ℕ → Option (ℕ × �
 window_at width limit file at =
     pick (window_right width limit file at) (Some (at + width, at + width + number_at width file at)) None
 
+-- what is made of what came and of the place after it, or the place of the first wrong item
+abbrev pub told_by : {A B : Type 0} → (A → ℕ → B) → Reading A → Result B ℕ
+told_by make (right a end) = Ok (make a end)
+told_by make (wrong offset) = Err offset
+
 -- where it ended, or the place of the first wrong item
 abbrev pub run_of : {A : Type 0} → Reading A → Result ℕ ℕ
-run_of (right a end) = Ok end
-run_of (wrong offset) = Err offset
+run_of r = told_by (λ a end. end) r

@@ -112,7 +112,7 @@ module _ {A B : Type 0} (format : Format A) (rest : A → Format B) {file : List
       (all.0, all.1, record { was = all.2 }, record { was = all.3 })
 
   pub then_unwrong : {C : Type 0} {place : ℕ} → run_of (read_by format file at) ≡ Err place → C
-  then_unwrong is = never due.was (then_wrong {tell = itself} format rest is).is
+  then_unwrong is = never due.was (then_wrong {tell = itself} format rest _ is).is
 
   pub then_behind : {next : ℕ} → run_of (read_by format file at) ≡ Ok next → (a : A) × Right (rest a) file next b end
   then_behind is =

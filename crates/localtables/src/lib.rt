@@ -10,7 +10,7 @@ ghost use Rattle.format.specs.Format.{times, read_by, right};
 ghost use Rattle.localtables.specs.Locals.{first_local, local_told, count_told, RecordsAt, AttributesAt};
 
 use attributes::pass_over;
-use bodies::{LocalRead, read_handlers, read_local, read_tables};
+use bodies::{read_handlers, read_local, read_tables};
 use entries::is_named;
 use format::{read_u2, read_window};
 use search::covers_load;
@@ -60,7 +60,7 @@ fn search_records(
     let mut at = records.from;
     let mut left = records.count;
     while 0 < left {
-        let LocalRead::Read(local) = read_local(file, table, at, limit) else {
+        let Ok(local) = read_local(file, table, at, limit) else {
             return LocalFound::Missing;
         };
         if covers_load(local.start, local.size, local.slot, slot, load) {

@@ -1,6 +1,7 @@
 -- From what reading the class file told to what is answered and written.
 -- Rests on: the table of places serves the pool (crates/classfile); the methods stand one behind the other (crates/standing).
 -- Assumes nothing.
+use Rattle.std.specs.Prelude.{Ok, Err}
 use Prim.Native.Nat.{ℕ, ◌*◌, ◌≤◌, ◌<◌}
 use native.Mathlib.Nat.{zero-add}
 use native.Mathlib.Omega.{arith}
@@ -13,21 +14,21 @@ use Rattle.basics.proofs.Bytes.{u16_below}
 use Rattle.basics.specs.Parts.{overlaid}
 use Rattle.text.specs.Writing.{over}
 use Rattle.format.specs.Format.{Format, times, number_at, Reading, right, read_by}
-use Rattle.format.proofs.Items.{two_bytes}
+use Rattle.format.proofs.Items.{two_bytes, failed}
 use Rattle.format.proofs.Was.{so_many}
 use Rattle.classformat.specs.Contents.{entry_in, name_of, Method, ClassFile}
 use Rattle.classformat.specs.ClassFile.{method_format, class_format}
 use Rattle.classformat.specs.declared.Entry.{Entry}
 use Rattle.entries.specs.Entries.{entry_by, names_by, Serves}
-use Rattle.classfile.specs.Class.{class_told, start_table}
-use Rattle.classfile.specs.declared.ClassRead.TheVariants as class
+use Rattle.classfile.specs.Class.{class_place, class_told, start_table}
+use Rattle.classfile.specs.declared.ClassPlace.{ClassPlace}
 use Rattle.laying.proofs.Over.{over_holds}
 use Rattle.classparts.specs.Right.{IsClass}
 use Rattle.standing.specs.Standing.{names_in}
 use Rattle.standing.proofs.Methods.{class_at}
-use Rattle.standing.proofs.Reading.{class_serves, class_wrong, class_read}
+use Rattle.standing.proofs.Reading.{class_serves, class_read}
 use Rattle.methodlist.specs.List.{listed, Delivered}
-use Rattle.methodlist.specs.declared.MethodList.TheVariants.{Listed, Wrong, NoRoom}
+use Rattle.methodlist.specs.declared.ListError.TheVariants.{Wrong, NoRoom}
 use Rattle.methodlist.proofs.Listing.{eight_each}
 
 -- ---- a class file that was read
@@ -68,17 +69,23 @@ module _ (file numbers : List ℕ) where
   abbrev reading : Reading ClassFile
   reading = read_by (class_format file) file 0
 
-  pub turned_down : {place : ℕ} → class_told reading ≡ class.Wrong place → Delivered file numbers (Wrong place) numbers
-  turned_down told = let is = class_wrong reading told in record { answers = rw is; leaves = rw is }
+  pub turned_down : {place : ℕ} → class_told reading ≡ Err place → Delivered file numbers (Err (Wrong place)) numbers
+  turned_down told = let is = failed class_place reading told in record { answers = rw is; leaves = rw is }
 
-  module _ (are : AreBytes file) {major from count : ℕ} (told : class_told reading ≡ class.Read major from count) where
+  module _ (are : AreBytes file) {place : ClassPlace} (told : class_told reading ≡ Ok place) where
+    abbrev from : ℕ
+    from = place.from
+
+    abbrev count : ℕ
+    count = place.count
+
     read : (c : ClassFile) × IsClass file c × (c.from ≡ from) × (length c.methods ≡ count)
     read = class_read file are reading refl told
 
     pub few : count < 65536
     few = omega (arith, read.3, few_methods file read.0 read.1)
 
-    pub too_small : length numbers < 8 * count → Delivered file numbers (NoRoom (8 * count)) numbers
+    pub too_small : length numbers < 8 * count → Delivered file numbers (Err (NoRoom (8 * count))) numbers
     too_small less =
         let small = lt-ltb (length numbers) (8 * count) less in
         let is = read.1.reads in
@@ -90,7 +97,7 @@ module _ (file numbers : List ℕ) where
         ((methods : List Method) (end : ℕ) →
         read_by (times count (method_format (names_by file table) (length file))) file from ≡ right methods end →
         out ≡ overlaid 0 (listed (entry_by file table) methods) numbers) →
-        Delivered file numbers (Listed count) out
+        Delivered file numbers (Ok count) out
     fitting before table out room kept enough filled =
         let c = read.0 in
         let is = read.1.reads in

@@ -1,5 +1,6 @@
 -- The list at work: a small class file with an abstract method a and a static method b, whose Code has two local records.
 -- Assumes nothing.
+use Rattle.std.specs.Prelude.{Result, Ok, Err}
 use Prim.Native.Nat.{ℕ}
 use mathlib.Core.List.{List, [], ◌∷◌, ◌++◌}
 use mathlib.Core.Path.{◌≡◌, refl}
@@ -10,8 +11,8 @@ use Rattle.utf8.specs.Turning.{is_modified, right_by, size_of, size_by}
 use Rattle.format.specs.Format.{and_then, times, each, number_at, read_by}
 use Rattle.classformat.specs.ClassFile.{entry_format, pool_format, interface_format, handler_format, joined, attribute_format, field_format, local_format, local_table_format, code_attribute_format, code_end_format, code_tables_format, code_format, coded_format, method_attribute_format, method_format, fields_format, end_format, methods_format, head_format, rest_format, start_format, class_format}
 use Rattle.methodlist.specs.List.{listed, list_answer, list_output}
-use Rattle.methodlist.specs.declared.MethodList.{MethodList}
-use Rattle.methodlist.specs.declared.MethodList.TheVariants.{Listed, Wrong, NoRoom}
+use Rattle.methodlist.specs.declared.ListError.{ListError}
+use Rattle.methodlist.specs.declared.ListError.TheVariants.{Wrong, NoRoom}
 
 -- five texts, at 13, 17, 21, 27 and 34
 abbrev sample_pool : List ℕ
@@ -36,7 +37,7 @@ sample =
 pub record Row : Type 0 where
   pub file : List ℕ
   pub numbers : List ℕ
-  pub answer : MethodList
+  pub answer : Result ℕ ListError
   pub left : List ℕ
 
 abbrev sevens : ℕ → List ℕ
@@ -48,13 +49,13 @@ rows =
     record {
       file = sample;
       numbers = sevens 17;
-      answer = Listed 2;
+      answer = Ok 2;
       left = 1025 ∷ 0 ∷ 0 ∷ 13 ∷ 1 ∷ 21 ∷ 3 ∷ 0 ∷ 9 ∷ 94 ∷ 2 ∷ 17 ∷ 1 ∷ 21 ∷ 3 ∷ 2 ∷ 7 ∷ [];
     } ∷
     -- one too few
-    record { file = sample; numbers = sevens 15; answer = NoRoom 16; left = sevens 15 } ∷
+    record { file = sample; numbers = sevens 15; answer = Err (NoRoom 16); left = sevens 15 } ∷
     -- the last count is cut
-    record { file = take 129 sample; numbers = sevens 16; answer = Wrong 128; left = sevens 16 } ∷ []
+    record { file = take 129 sample; numbers = sevens 16; answer = Err (Wrong 128); left = sevens 16 } ∷ []
 
 abbrev pub AllHold : List Row → Type 0
 AllHold [] = Unit {0}

@@ -1,6 +1,7 @@
 -- Writing the numbers of methods that were judged: the stores of one method, what they say of it, and a turn of the loop over all of them.
 -- Rests on: the tables of a Code stand behind its instructions (crates/standing).
 -- Assumes nothing.
+use Rattle.std.specs.Prelude.{Result, Ok, Err}
 use Prim.Native.Nat.{ℕ, suc, ◌+◌, ◌≤◌}
 use native.Mathlib.Nat.{add-zero}
 use native.Mathlib.Omega.{arith}
@@ -16,9 +17,8 @@ use Rattle.classformat.specs.Contents.{Name, Body, bodiless, coded, Tables, Meth
 use Rattle.classformat.specs.ClassFile.{any, handler_format, code_end_format, code_tables_format, method_format}
 use Rattle.entries.specs.Entries.{entry_by, names_by}
 use Rattle.localtables.specs.Locals.{count_told}
-use Rattle.methods.specs.Method.{body_place, method_told}
+use Rattle.methods.specs.Method.{body_place, method_place, method_told}
 use Rattle.methods.specs.declared.MethodPlace.{MethodPlace}
-use Rattle.methods.specs.declared.MethodRead.TheVariants.{Read, Wrong}
 use Rattle.standing.proofs.Codes.{BodyAt, method_stands}
 use Rattle.methodlist.specs.List.{code_start, code_size, record_count, method_numbers, listed, CodeInside, code_numbers, numbers_by}
 use Rattle.methodlist.specs.declared.CodeNumbers.{CodeNumbers}
@@ -41,9 +41,6 @@ set_eight x₀ x₁ x₂ x₃ x₄ x₅ x₆ x₇ l k h =
     let e₇ : k + 7 ≡ suc (suc (suc (suc (suc (suc (suc k)))))) = omega arith in
     let all : List ℕ = x₀ ∷ x₁ ∷ x₂ ∷ x₃ ∷ x₄ ∷ x₅ ∷ x₆ ∷ x₇ ∷ [] in
     rw (e₁, e₂, e₃, e₄, e₅, e₆, e₇) (sets-eq all l k h ∙ append_assoc (take k l) all (drop (k + 8) l))
-
-abbrev place_of : Method → ℕ → MethodPlace
-place_of m end = record { flags = m.flags; name = m.name; descriptor = m.descriptor; body = body_place m.body; next = end }
 
 module _ (file table : List ℕ) where
   abbrev names : ℕ → Name
@@ -73,18 +70,18 @@ module _ (file table : List ℕ) where
 
   method-numbers :
       (at : ℕ) (m : Method) (end : ℕ) → read_by one file at ≡ right m end →
-      numbers_by file table (place_of m end) ≡ method_numbers (entry_by file table) m
+      numbers_by file table (method_place m end) ≡ method_numbers (entry_by file table) m
   method-numbers at m end is =
       let body = body_numbers m.body (method_stands file names (length file) at m end is) in
       rw body
 
   -- by what the reader told
-  pub told_inside : (at : ℕ) {method : MethodPlace} → method_told (read_by one file at) ≡ Read method → CodeInside method.body
+  pub told_inside : (at : ℕ) {method : MethodPlace} → method_told (read_by one file at) ≡ Ok method → CodeInside method.body
   told_inside at {method} e = by (read_by one file at) refl e
     where
-      by : (r : Reading Method) → read_by one file at ≡ r → method_told r ≡ Read method → CodeInside method.body
+      by : (r : Reading Method) → read_by one file at ≡ r → method_told r ≡ Ok method → CodeInside method.body
       by (right m end) is told =
-          let same : place_of m end ≡ method = cc in
+          let same : method_place m end ≡ method = cc in
           subst (λ (p : MethodPlace). CodeInside p.body) same (body_inside m.body (method_stands file names (length file) at m end is))
       by (wrong place) is told = let z : ◌≡◌ {A = ℕ} 0 1 = cc in absurd (omega arith)
 
@@ -92,17 +89,17 @@ module _ (file table : List ℕ) where
 
   pub never_wrong :
       {A : Type 0} {n at end : ℕ} {methods : List Method} (f : FirstOf one n file at methods end) {place : ℕ} →
-      method_told (read_by one file at) ≡ Wrong place → A
+      method_told (read_by one file at) ≡ Err place → A
   never_wrong f {place} told =
-      let both : Read (place_of f.first f.next) ≡ Wrong place = sym (ap method_told f.read) ∙ told in
+      let both : ◌≡◌ {A = Result MethodPlace ℕ} (Ok (method_place f.first f.next)) (Err place) = sym (ap method_told f.read) ∙ told in
       let z : ◌≡◌ {A = ℕ} 0 1 = cc in
       absurd (omega arith)
 
   module _
       {n at end : ℕ} {methods : List Method} (f : FirstOf one n file at methods end) {method : MethodPlace}
-      (told : method_told (read_by one file at) ≡ Read method) where
-    first_is : place_of f.first f.next ≡ method
-    first_is = let both : Read (place_of f.first f.next) ≡ Read method = sym (ap method_told f.read) ∙ told in cc
+      (told : method_told (read_by one file at) ≡ Ok method) where
+    first_is : method_place f.first f.next ≡ method
+    first_is = let both : ◌≡◌ {A = Result MethodPlace ℕ} (Ok (method_place f.first f.next)) (Ok method) = sym (ap method_told f.read) ∙ told in cc
 
     pub next_is : f.next ≡ method.next
     next_is = ap (λ (p : MethodPlace). p.next) first_is

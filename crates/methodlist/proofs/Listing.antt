@@ -1,6 +1,7 @@
 -- What a list of methods tells.
 -- Rests on: the number of a method's name leads to a text, and so does that of its descriptor; texts lie in the file (crates/classparts).
 -- Assumes nothing.
+use Rattle.std.specs.Prelude.{Result, Ok, Err}
 use Prim.Native.Nat.{ℕ, ◌+◌, ◌≤◌}
 use native.Mathlib.Omega.{arith}
 use mathlib.Core.Path.{◌≡◌, refl, ◌∙◌, sym, ap}
@@ -17,24 +18,24 @@ use Rattle.classparts.proofs.Methods.{methods_declared}
 use Rattle.classparts.proofs.Reading.{EntryRight, class_right}
 use Rattle.methodlist.specs.List.{text_start, text_size, listed, numbered}
 use Rattle.methodlist.specs.Listing.{NumberedInjective, EightEach, text_of, NamesSpelled}
-use Rattle.methodlist.specs.declared.MethodList.{MethodList}
-use Rattle.methodlist.specs.declared.MethodList.TheVariants.{Listed, TooLong, Wrong, NoRoom}
+use Rattle.methodlist.specs.declared.ListError.{ListError}
+use Rattle.methodlist.specs.declared.ListError.TheVariants.{TooLong, Wrong, NoRoom}
 
 -- ---- the numbers of an answer
 
 -- the answer with these numbers
-answered : List ℕ → MethodList
+answered : List ℕ → Result ℕ ListError
 answered numbers =
-    pick (eqb (get_or numbers 0 0) 0) (Listed (get_or numbers 1 0))
-    (pick (eqb (get_or numbers 0 0) 5) TooLong
-    (pick (eqb (get_or numbers 0 0) 6) (Wrong (get_or numbers 1 0)) (NoRoom (get_or numbers 1 0))))
+    pick (eqb (get_or numbers 0 0) 0) (Ok (get_or numbers 1 0))
+    (pick (eqb (get_or numbers 0 0) 5) (Err TooLong)
+    (pick (eqb (get_or numbers 0 0) 6) (Err (Wrong (get_or numbers 1 0))) (Err (NoRoom (get_or numbers 1 0)))))
 
-read_back : (answer : MethodList) → answered (numbered answer) ≡ answer
+read_back : (answer : Result ℕ ListError) → answered (numbered answer) ≡ answer
 unfolding numbered answered
-read_back (Listed count) = refl
-read_back TooLong = refl
-read_back (Wrong offset) = refl
-read_back (NoRoom size) = refl
+read_back (Ok count) = refl
+read_back (Err TooLong) = refl
+read_back (Err (Wrong offset)) = refl
+read_back (Err (NoRoom size)) = refl
 
 pub numbered_injective : NumberedInjective
 numbered_injective one another e = sym (read_back one) ∙ ap answered e ∙ read_back another

@@ -1,7 +1,7 @@
 -- The methods of a class file as numbers (document 02, request 3: "eight numbers a method (flags, code start and length, 0 and 0 without
 -- Code, name start and length, descriptor start and length as offsets of modified UTF-8 in the file, and one for the record count)").
 -- Assumes nothing.
-use Rattle.std.specs.Prelude.{ℕ, ◌+◌, ◌*◌, ◌≤◌, List, [], ◌∷◌, ◌++◌, ◌≡◌, ltb, length}
+use Rattle.std.specs.Prelude.{ℕ, ◌+◌, ◌*◌, ◌≤◌, List, [], ◌∷◌, ◌++◌, ◌≡◌, ltb, length, Option, Some, None, Result, Ok, Err}
 use Rattle.basics.specs.Choice.{pick}
 use Rattle.text.specs.Writing.{over}
 use Rattle.casefile.specs.Whole.{longest}
@@ -10,14 +10,13 @@ use Rattle.classformat.specs.Contents.{entry_in, then_text, Body, bodiless, code
 use Rattle.classformat.specs.ClassFile.{code_tables_format, class_format}
 use Rattle.classformat.specs.declared.Entry.{Entry}
 use Rattle.entries.specs.Entries.{entry_by, names_by}
+use Rattle.bodies.specs.declared.CodePlace.{CodePlace}
 use Rattle.localtables.specs.Locals.{count_told}
-use Rattle.methods.specs.declared.BodyPlace.{BodyPlace}
-use Rattle.methods.specs.declared.BodyPlace.TheVariants.{Bodiless, Coded}
 use Rattle.methods.specs.declared.MethodPlace.{MethodPlace}
 use Rattle.methodlist.specs.declared.CodeNumbers.{CodeNumbers}
 use Rattle.methodlist.specs.declared.TextPlace.{TextPlace}
-use Rattle.methodlist.specs.declared.MethodList.{MethodList}
-use Rattle.methodlist.specs.declared.MethodList.TheVariants.{Listed, TooLong, Wrong, NoRoom}
+use Rattle.methodlist.specs.declared.ListError.{ListError}
+use Rattle.methodlist.specs.declared.ListError.TheVariants.{TooLong, Wrong, NoRoom}
 
 -- ---- the numbers of a method
 
@@ -62,9 +61,9 @@ abbrev pub needed : ClassFile → ℕ
 needed c = 8 * length c.methods
 
 -- "answers 0 with the count of methods, .. 6 with the offset, 4 with the numbers needed", in a buffer of so many numbers
-abbrev pub answer_by : Reading ClassFile → ℕ → MethodList
-answer_by (right c end) room = pick (ltb room (needed c)) (NoRoom (needed c)) (Listed (length c.methods))
-answer_by (wrong offset) room = Wrong offset
+abbrev pub answer_by : Reading ClassFile → ℕ → Result ℕ ListError
+answer_by (right c end) room = pick (ltb room (needed c)) (Err (NoRoom (needed c))) (Ok (length c.methods))
+answer_by (wrong offset) room = Err (Wrong offset)
 
 -- the buffer starts with the numbers and the rest is unchanged; "a refusal leaves the buffer unchanged"
 abbrev pub output_by : Reading ClassFile → List ℕ → List ℕ
@@ -72,24 +71,24 @@ output_by (right c end) numbers = pick (ltb (length numbers) (needed c)) numbers
 output_by (wrong offset) numbers = numbers
 
 -- 5 where the file is longer than a case can be, before it is read
-unfoldable pub list_answer : List ℕ → ℕ → MethodList
-list_answer file room = pick (ltb longest (length file)) TooLong (answer_by (read_by (class_format file) file 0) room)
+unfoldable pub list_answer : List ℕ → ℕ → Result ℕ ListError
+list_answer file room = pick (ltb longest (length file)) (Err TooLong) (answer_by (read_by (class_format file) file 0) room)
 
 -- and the buffer, unchanged then
 unfoldable pub list_output : List ℕ → List ℕ → List ℕ
 list_output file numbers = pick (ltb longest (length file)) numbers (output_by (read_by (class_format file) file 0) numbers)
 
 -- document 02's numbers of an answer: 0 with the count of methods, 5, 6 with the offset, 4 with the numbers needed
-unfoldable pub numbered : MethodList → List ℕ
-numbered (Listed count) = 0 ∷ count ∷ []
-numbered TooLong = 5 ∷ []
-numbered (Wrong offset) = 6 ∷ offset ∷ []
-numbered (NoRoom size) = 4 ∷ size ∷ []
+unfoldable pub numbered : Result ℕ ListError → List ℕ
+numbered (Ok count) = 0 ∷ count ∷ []
+numbered (Err TooLong) = 5 ∷ []
+numbered (Err (Wrong offset)) = 6 ∷ offset ∷ []
+numbered (Err (NoRoom size)) = 4 ∷ size ∷ []
 
 -- ---- what the reader's parts answer
 
 -- of a file that is not too long: the answer, and what the buffer holds afterwards
-pub record Delivered (file numbers : List ℕ) (answer : MethodList) (left : List ℕ) : Type 0 where
+pub record Delivered (file numbers : List ℕ) (answer : Result ℕ ListError) (left : List ℕ) : Type 0 where
   pub answers : answer ≡ answer_by (read_by (class_format file) file 0) (length numbers)
   pub leaves : left ≡ output_by (read_by (class_format file) file 0) numbers
 
@@ -98,9 +97,9 @@ abbrev pub text_place : Entry → TextPlace
 text_place entry = record { start = text_start entry; size = text_size entry }
 
 -- the instructions end no later than the attribute does
-abbrev pub CodeInside : BodyPlace → Type 0
-CodeInside Bodiless = Unit {0}
-CodeInside (Coded code) = code.start + code.size ≤ code.stop
+abbrev pub CodeInside : Option CodePlace → Type 0
+CodeInside None = Unit {0}
+CodeInside (Some code) = code.start + code.size ≤ code.stop
 
 -- the eight numbers of a method, by what was found of it
 abbrev pub eight : ℕ → CodeNumbers → TextPlace → TextPlace → List ℕ
@@ -109,9 +108,9 @@ eight flags code name descriptor =
 
 module _ (file table : List ℕ) where
   -- the local records are counted where the instructions end
-  abbrev pub code_numbers : BodyPlace → CodeNumbers
-  code_numbers Bodiless = record { start = 0; size = 0; records = 0 }
-  code_numbers (Coded code) =
+  abbrev pub code_numbers : Option CodePlace → CodeNumbers
+  code_numbers None = record { start = 0; size = 0; records = 0 }
+  code_numbers (Some code) =
       record {
         start = code.start;
         size = code.size;

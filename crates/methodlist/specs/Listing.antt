@@ -1,17 +1,17 @@
 -- What a list of methods tells: an answer is told by its numbers, each method has eight, and what they say of a name or a descriptor is
 -- where the file spells it. The statements are proved in proofs/ of this crate.
 -- Assumes nothing.
-use Rattle.std.specs.Prelude.{ℕ, ◌+◌, ◌*◌, ◌≤◌, ◌≡◌, length}
+use Rattle.std.specs.Prelude.{ℕ, ◌+◌, ◌*◌, ◌≤◌, ◌≡◌, length, Result}
 use mathlib.Core.List.{List, Memᴰ}
 use Rattle.format.specs.Format.{bytes_at}
 use Rattle.classformat.specs.Contents.{entry_in, named, name_of, Method, ClassFile}
 use Rattle.classformat.specs.declared.Entry.{Entry}
 use Rattle.classparts.specs.Right.{IsClass}
 use Rattle.methodlist.specs.List.{text_start, text_size, listed, numbered}
-use Rattle.methodlist.specs.declared.MethodList.{MethodList}
+use Rattle.methodlist.specs.declared.ListError.{ListError}
 
 abbrev pub NumberedInjective : Type 0
-NumberedInjective = (one another : MethodList) → numbered one ≡ numbered another → one ≡ another
+NumberedInjective = (one another : Result ℕ ListError) → numbered one ≡ numbered another → one ≡ another
 
 -- eight numbers a method
 abbrev pub EightEach : Type 0

@@ -11,21 +11,20 @@ ghost use Rattle.entries.specs.Entries.{entry_by, names_by};
 ghost use Rattle.format.specs.Format.{times, read_by, right};
 ghost use Rattle.methodlist.specs.List.{listed, list_answer, list_output, Delivered, text_place, CodeInside, code_numbers, numbers_by};
 
-use classfile::{ClassRead, read_class};
+use bodies::CodePlace;
+use classfile::read_class;
 use classformat::Entry;
 use entries::entry_at;
 use localtables::count_locals;
-use methods::{BodyPlace, MethodPlace, MethodRead, read_method};
+use methods::{MethodPlace, read_method};
 use reads::read_u16;
 
 // The longest file that is read.
 const LONGEST: usize = 1048576;
 
-// What listing the methods of a file answers.
+// Why the methods of a file are not listed.
 #[derive(Clone, Copy)]
-pub enum MethodList {
-    // How many methods there are; the buffer starts with eight numbers of each.
-    Listed(usize),
+pub enum ListError {
     TooLong,
     // The place of the first wrong item.
     Wrong(usize),
@@ -59,17 +58,17 @@ fn find_text(file: &[u8], table: &[usize], index: usize) -> TextPlace
 }
 
 // The numbers of a method's code, each 0 where it has none.
-fn find_code(file: &[u8], table: &[usize], body: BodyPlace) -> CodeNumbers
+fn find_code(file: &[u8], table: &[usize], body: Option<CodePlace>) -> CodeNumbers
     requires { CodeInside body }
     ensures { result ≡ code_numbers file.now table.now body }
 {
     match body {
-        BodyPlace::Bodiless => CodeNumbers {
+        None => CodeNumbers {
             start: 0,
             size: 0,
             records: 0,
         },
-        BodyPlace::Coded(code) => CodeNumbers {
+        Some(code) => CodeNumbers {
             start: code.start,
             size: code.size,
             records: count_locals(file, table, code.start + code.size, code.stop),
@@ -109,7 +108,7 @@ fn fill_methods(file: &[u8], table: &[usize], from: usize, count: usize, numbers
     let mut left = count;
     let mut k = 0;
     while 0 < left {
-        let MethodRead::Read(method) = read_method(file, table, at, file.len()) else {
+        let Ok(method) = read_method(file, table, at, file.len()) else {
             return;
         };
         put_method(file, table, method, numbers, k);
@@ -120,29 +119,27 @@ fn fill_methods(file: &[u8], table: &[usize], from: usize, count: usize, numbers
 }
 
 // Lists by a lent table, which has a cell for each pool number.
-fn list_with(file: &[u8], table: &mut [usize], numbers: &mut [u64]) -> MethodList
+fn list_with(file: &[u8], table: &mut [usize], numbers: &mut [u64]) -> Result<usize, ListError>
     requires { u16_at file.now 8 ≤ length table.old }
     ensures { Delivered file.now numbers.old result numbers.new }
 {
-    match read_class(file, table) {
-        ClassRead::Read {
-            major: _,
-            from,
-            count,
-        } => {
-            let needed = 8 * count;
-            if numbers.len() < needed {
-                return MethodList::NoRoom(needed);
-            }
-            fill_methods(file, table, from, count, numbers);
-            MethodList::Listed(count)
+    let class = match read_class(file, table) {
+        Ok(class) => class,
+        Err(wrong) => {
+            return Err(ListError::Wrong(wrong));
         }
-        ClassRead::Wrong(wrong) => MethodList::Wrong(wrong),
+    };
+    let count = class.count;
+    let needed = 8 * count;
+    if numbers.len() < needed {
+        return Err(ListError::NoRoom(needed));
     }
+    fill_methods(file, table, class.from, count, numbers);
+    Ok(count)
 }
 
 // Lists a file whose pool has at most 1,024 numbers, by a table that is soon cleared.
-fn list_small(file: &[u8], numbers: &mut [u64]) -> MethodList
+fn list_small(file: &[u8], numbers: &mut [u64]) -> Result<usize, ListError>
     requires { u16_at file.now 8 ≤ 1024 }
     ensures { Delivered file.now numbers.old result numbers.new }
 {
@@ -151,7 +148,7 @@ fn list_small(file: &[u8], numbers: &mut [u64]) -> MethodList
 }
 
 // Lists a file whose pool has any count of numbers, which is one of two bytes.
-fn list_large(file: &[u8], numbers: &mut [u64]) -> MethodList
+fn list_large(file: &[u8], numbers: &mut [u64]) -> Result<usize, ListError>
     requires { u16_at file.now 8 ≤ 65536 }
     ensures { Delivered file.now numbers.old result numbers.new }
 {
@@ -159,13 +156,13 @@ fn list_large(file: &[u8], numbers: &mut [u64]) -> MethodList
     list_with(file, &mut table, numbers)
 }
 
-// Lists the methods of a class file.
-pub fn list_methods(file: &[u8], numbers: &mut [u64]) -> MethodList
+// Lists the methods of a class file, and answers how many there are: the buffer starts with eight numbers of each.
+pub fn list_methods(file: &[u8], numbers: &mut [u64]) -> Result<usize, ListError>
     ensures answers { result ≡ list_answer file.now (length numbers.old) }
     ensures leaves { numbers.new ≡ list_output file.now numbers.old }
 {
     if LONGEST < file.len() {
-        return MethodList::TooLong;
+        return Err(ListError::TooLong);
     }
     if read_u16(file, 8) <= 1024 {
         return list_small(file, numbers);

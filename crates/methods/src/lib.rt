@@ -12,66 +12,48 @@ ghost use Rattle.classformat.specs.ClassFile.{passed_over, coded_format, method_
 ghost use Rattle.methods.specs.Method.{body_place, body_told, method_told, method_behind};
 
 use attributes::pass_over;
-use bodies::{CodePlace, CodeRead, read_code};
+use bodies::{CodePlace, read_code};
 use entries::{is_name, is_named};
 use format::{read_u2, read_window};
 
-// The code of a method, where it has one.
-#[derive(Clone, Copy)]
-pub enum BodyPlace {
-    Bodiless,
-    Coded(CodePlace),
-}
-
-// What reading attributes of a method answers.
-#[derive(Clone, Copy)]
-pub enum BodyRead {
-    // The code that they and those before them have, and the place after them.
-    Read(BodyPlace, usize),
-    // The place of the first wrong item.
-    Wrong(usize),
-}
-
-// A method: its flags, the pool numbers of its name and of its descriptor, its code, and the place after it.
+// A method: its flags, the pool numbers of its name and of its descriptor, its code where it has one, and the place after it.
 #[derive(Clone, Copy)]
 pub struct MethodPlace {
     pub flags: usize,
     pub name: usize,
     pub descriptor: usize,
-    pub body: BodyPlace,
+    pub body: Option<CodePlace>,
     pub next: usize,
 }
 
-// What reading a method answers.
-#[derive(Clone, Copy)]
-pub enum MethodRead {
-    Read(MethodPlace),
-    // The place of the first wrong item.
-    Wrong(usize),
-}
-
 // A Code, from its attribute's length on.
-fn read_coded(file: &[u8], table: &[usize], at: usize, limit: usize) -> BodyRead
+fn read_coded(
+    file: &[u8],
+    table: &[usize],
+    at: usize,
+    limit: usize,
+) -> Result<(Option<CodePlace>, usize), usize>
     ensures { result ≡ body_told (read_by (coded_format (names_by file.now table.now) limit) file.now at) }
 {
     let Some((start, stop)) = read_window(file, at, limit) else {
-        return BodyRead::Wrong(at);
+        return Err(at);
     };
-    match read_code(file, table, start, stop) {
-        CodeRead::Read(code, next) => BodyRead::Read(BodyPlace::Coded(code), next),
-        CodeRead::Wrong(wrong) => BodyRead::Wrong(wrong),
-    }
+    let (code, next) = read_code(file, table, start, stop)?;
+    Ok((Some(code), next))
 }
 
 // An attribute that is no Code, from its length on.
-fn pass_attribute(file: &[u8], at: usize, limit: usize, body: BodyPlace) -> BodyRead
+fn pass_attribute(
+    file: &[u8],
+    at: usize,
+    limit: usize,
+    body: Option<CodePlace>,
+) -> Result<(Option<CodePlace>, usize), usize>
     ensures { (before : Body) → body_place before ≡ body →
         result ≡ body_told (read_by (passed_over limit before) file.now at) }
 {
-    match pass_over(file, at, limit) {
-        Ok(next) => BodyRead::Read(body, next),
-        Err(wrong) => BodyRead::Wrong(wrong),
-    }
+    let next = pass_over(file, at, limit)?;
+    Ok((body, next))
 }
 
 // An attribute, behind those that have this code: a second Code's name is wrong.
@@ -80,87 +62,84 @@ fn read_method_attribute(
     table: &[usize],
     at: usize,
     limit: usize,
-    body: BodyPlace,
-) -> BodyRead
+    body: Option<CodePlace>,
+) -> Result<(Option<CodePlace>, usize), usize>
     ensures { (before : Body) → body_place before ≡ body →
         result ≡ body_told (read_by (method_attribute_format (names_by file.now table.now) limit before) file.now at) }
 {
     let Some((name, length_at)) = read_u2(file, at, limit) else {
-        return BodyRead::Wrong(at);
+        return Err(at);
     };
     if is_name(file, table, name) {
         if is_named(file, table, name, b"Code") {
             return match body {
-                BodyPlace::Bodiless => read_coded(file, table, length_at, limit),
-                BodyPlace::Coded(_) => BodyRead::Wrong(at),
+                None => read_coded(file, table, length_at, limit),
+                Some(_) => Err(at),
             };
         }
         return pass_attribute(file, length_at, limit, body);
     }
-    BodyRead::Wrong(at)
+    Err(at)
 }
 
-// So many attributes of a method.
+// So many attributes of a method: the code that they have, where one does, and the place after them; or the place of the first wrong item.
 fn read_method_attributes(
     file: &[u8],
     table: &[usize],
     from: usize,
     count: usize,
     limit: usize,
-) -> BodyRead
+) -> Result<(Option<CodePlace>, usize), usize>
     ensures { result ≡ body_told (read_by (each count (method_attribute_format (names_by file.now table.now) limit) bodiless)
         file.now from) }
 {
     let mut at = from;
     let mut left = count;
-    let mut body = BodyPlace::Bodiless;
+    let mut body = None;
     while 0 < left {
-        match read_method_attribute(file, table, at, limit, body) {
-            BodyRead::Read(found, next) => {
-                body = found;
-                at = next;
-            }
-            BodyRead::Wrong(wrong) => {
-                return BodyRead::Wrong(wrong);
-            }
-        }
+        let (found, next) = read_method_attribute(file, table, at, limit, body)?;
+        body = found;
+        at = next;
         left -= 1;
     }
-    BodyRead::Read(body, at)
+    Ok((body, at))
 }
 
-// A method.
-pub fn read_method(file: &[u8], table: &[usize], at: usize, limit: usize) -> MethodRead
+// A method, or the place of its first wrong item.
+pub fn read_method(
+    file: &[u8],
+    table: &[usize],
+    at: usize,
+    limit: usize,
+) -> Result<MethodPlace, usize>
     ensures { result ≡ method_told (read_by (method_format (names_by file.now table.now) limit) file.now at) }
 {
     let Some((flags, name_at)) = read_u2(file, at, limit) else {
-        return MethodRead::Wrong(at);
+        return Err(at);
     };
     let Some((name, descriptor_at)) = read_u2(file, name_at, limit) else {
-        return MethodRead::Wrong(name_at);
+        return Err(name_at);
     };
     if is_name(file, table, name) {
         let Some((descriptor, count_at)) = read_u2(file, descriptor_at, limit) else {
-            return MethodRead::Wrong(descriptor_at);
+            return Err(descriptor_at);
         };
         if is_name(file, table, descriptor) {
             let Some((count, from)) = read_u2(file, count_at, limit) else {
-                return MethodRead::Wrong(count_at);
+                return Err(count_at);
             };
-            return match read_method_attributes(file, table, from, count, limit) {
-                BodyRead::Read(body, next) => MethodRead::Read(MethodPlace {
-                    flags,
-                    name,
-                    descriptor,
-                    body,
-                    next,
-                }),
-                BodyRead::Wrong(wrong) => MethodRead::Wrong(wrong),
-            };
+            let (body, next) = read_method_attributes(file, table, from, count, limit)?;
+            return Ok(MethodPlace {
+                flags,
+                name,
+                descriptor,
+                body,
+                next,
+            });
         }
-        return MethodRead::Wrong(descriptor_at);
+        return Err(descriptor_at);
     }
-    MethodRead::Wrong(name_at)
+    Err(name_at)
 }
 
 // So many methods.
@@ -177,14 +156,8 @@ pub fn read_methods(
     let mut at = from;
     let mut left = count;
     while 0 < left {
-        match read_method(file, table, at, limit) {
-            MethodRead::Read(method) => {
-                at = method.next;
-            }
-            MethodRead::Wrong(wrong) => {
-                return Err(wrong);
-            }
-        }
+        let method = read_method(file, table, at, limit)?;
+        at = method.next;
         left -= 1;
     }
     Ok(at)
@@ -197,12 +170,10 @@ pub fn find_method(
     from: usize,
     place: usize,
     limit: usize,
-) -> MethodRead
+) -> Result<MethodPlace, usize>
     ensures { result ≡ method_told (read_by (method_behind place (method_format (names_by file.now table.now) limit))
         file.now from) }
 {
-    match read_methods(file, table, from, place, limit) {
-        Ok(at) => read_method(file, table, at, limit),
-        Err(wrong) => MethodRead::Wrong(wrong),
-    }
+    let method_at = read_methods(file, table, from, place, limit)?;
+    read_method(file, table, method_at, limit)
 }

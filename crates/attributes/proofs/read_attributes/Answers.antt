@@ -12,7 +12,7 @@ returns-in_err-at c =
     let l = c.loop-left in
     let one = attribute_format (names_by a.file.now a.table.now) a.limit in
     let wrong-is = sym c.read_attribute.ensures ∙ c.in_err-at.was in
-    passed_on c.from_residual.ensures.1 ∙ sym (l.invariant ∙ (turn_wrong one l.left c.loop-left-test.true wrong-is).is)
+    passed_on c.from_residual.ensures.1 ∙ sym (l.invariant ∙ (turn_wrong one _ l.left c.loop-left-test.true wrong-is).is)
 
 pub loop-left-preserved : goal.loop-left-preserved
 loop-left-preserved c =

@@ -12,7 +12,7 @@ returns-in_default c =
     let l = c.loop-left in
     let one = interface_format c.args.limit in
     let cut = sym c.read_u2.ensures ∙ c.in_default.is in
-    sym (l.invariant ∙ (turn_wrong one l.left c.loop-left-test.true (sym (told run_of one (number_cut cut)))).is)
+    sym (l.invariant ∙ (turn_wrong one _ l.left c.loop-left-test.true (sym (told run_of one (number_cut cut)))).is)
 
 pub loop-left-preserved : goal.loop-left-preserved
 unfolding interface_format

@@ -34,4 +34,4 @@ unfolding code_end_format
 returns-in_err-next c =
     let a = c.args in
     let count = sym c.read_u2.ensures ∙ c.in-Some.is in
-    passed_on c.from_residual.ensures.1 ∙ told run_of (code_end_format (names_by a.file.now a.table.now) a.limit) (number_right count refl (then_wrong (times c.in-Some.count (code_attribute_format (names_by a.file.now a.table.now) a.limit)) (λ tables. full a.limit (done (joined tables))) (sym c.read_code_attributes.ensures ∙ c.in_err-next.was)))
+    passed_on c.from_residual.ensures.1 ∙ told run_of (code_end_format (names_by a.file.now a.table.now) a.limit) (number_right count refl (then_wrong (times c.in-Some.count (code_attribute_format (names_by a.file.now a.table.now) a.limit)) (λ tables. full a.limit (done (joined tables))) _ (sym c.read_code_attributes.ensures ∙ c.in_err-next.was)))

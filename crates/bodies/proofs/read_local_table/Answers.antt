@@ -34,4 +34,4 @@ unfolding local_table_format
 returns-in_err-next c =
     let a = c.args in
     let count = sym c.read_u2.ensures ∙ c.in-Some.is in
-    passed_on c.from_residual.ensures.1 ∙ told run_of (local_table_format (names_by a.file.now a.table.now) a.limit) (number_right count refl (then_wrong (times c.in-Some.count (local_format (names_by a.file.now a.table.now) a.limit)) (λ locals. full a.limit (done locals)) (sym c.read_locals.ensures ∙ c.in_err-next.was)))
+    passed_on c.from_residual.ensures.1 ∙ told run_of (local_table_format (names_by a.file.now a.table.now) a.limit) (number_right count refl (then_wrong (times c.in-Some.count (local_format (names_by a.file.now a.table.now) a.limit)) (λ locals. full a.limit (done locals)) _ (sym c.read_locals.ensures ∙ c.in_err-next.was)))

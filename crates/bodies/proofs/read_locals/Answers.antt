@@ -2,26 +2,26 @@
 -- Assumes nothing.
 use mathlib.Core.Path.{◌∙◌, sym}
 use Rattle.format.specs.Format.{read_by}
-use Rattle.format.proofs.Items.{turn_wrong, turn_right, none_left}
+use Rattle.format.proofs.Items.{passed_on, turn_wrong, turn_right, none_left}
 use Rattle.classformat.specs.ClassFile.{local_format}
 use Rattle.entries.specs.Entries.{names_by}
-use Rattle.bodies.proofs.Told.{record_ended, record_wrong}
+use Rattle.bodies.proofs.Told.{record_ended}
 use Rattle.bodies.proofs.read_locals.Goals as goal
 
-pub returns-in-Wrong : goal.returns-in-Wrong
-returns-in-Wrong c =
+pub returns-in_err-local : goal.returns-in_err-local
+returns-in_err-local c =
     let a = c.args in
     let l = c.loop-left in
     let one = local_format (names_by a.file.now a.table.now) a.limit in
-    let wrong-is = record_wrong (read_by one a.file.now l.at) (sym c.read_local.ensures ∙ c.in-Wrong.is) in
-    sym (l.invariant ∙ (turn_wrong one l.left c.loop-left-test.true wrong-is).is)
+    let wrong-is = sym c.read_local.ensures ∙ c.in_err-local.was in
+    passed_on c.from_residual.ensures.1 ∙ sym (l.invariant ∙ (turn_wrong one _ l.left c.loop-left-test.true wrong-is).is)
 
 pub loop-left-preserved : goal.loop-left-preserved
 loop-left-preserved c =
     let a = c.args in
     let l = c.loop-left in
     let one = local_format (names_by a.file.now a.table.now) a.limit in
-    let next_is = record_ended (read_by one a.file.now l.at) (sym c.read_local.ensures ∙ c.in-Read.is) in
+    let next_is = record_ended (read_by one a.file.now l.at) (sym c.read_local.ensures ∙ c.in_ok-local.was) in
     l.invariant ∙ (turn_right one l.left c.loop-left-test.true next_is).is
 
 pub returns : goal.returns

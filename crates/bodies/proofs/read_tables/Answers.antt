@@ -26,4 +26,4 @@ unfolding code_tables_format
 returns-in_err-next c =
     let a = c.args in
     let count = sym c.read_u2.ensures ∙ c.in-Some.is in
-    passed_on c.from_residual.ensures.1 ∙ told run_of (code_tables_format (names_by a.file.now a.table.now) a.limit) (number_right count refl (then_wrong _ _ (sym c.read_handlers.ensures ∙ c.in_err-next.was)))
+    passed_on c.from_residual.ensures.1 ∙ told run_of (code_tables_format (names_by a.file.now a.table.now) a.limit) (number_right count refl (then_wrong _ _ _ (sym c.read_handlers.ensures ∙ c.in_err-next.was)))

@@ -7,7 +7,7 @@ use mathlib.Core.Bool.{false}
 use lib.ListN.{length}
 use borrow.Author.Tests.{eq-eqb, ne_eqb, lt-ltb, le-ltb}
 use Rattle.format.specs.Format.{read_by}
-use Rattle.format.proofs.Items.{told, item_cut, number_cut, number_bad, number_right, ended, then-read, then_wrong, all_done}
+use Rattle.format.proofs.Items.{passed_on, told, item_cut, number_cut, number_bad, number_right, ended, then-read, then_wrong, all_done}
 use Rattle.classformat.specs.ClassFile.{pool_format, start_format}
 use Rattle.pool.specs.Pool.{places_in, placed}
 use Rattle.classfile.specs.Class.{start_told}
@@ -51,9 +51,9 @@ returns-in_default-read_u2-3 c =
     let minor = sym c.read_u2.ensures ∙ c.in-Some-read_u2.is in
     let major = sym c.read_u2-then-magic-eq-MAGIC.ensures ∙ c.in-Some-read_u2-2.is in record { answers = told start_told (start_format (length file)) (number_right magic rightly (number_right minor refl (number_right major refl (number_cut (sym c.read_u2-then-magic-eq-MAGIC-2.ensures ∙ c.in_default-read_u2-3.is))))); keeps = left_short file before (count_short file magic minor major (sym c.read_u2-then-magic-eq-MAGIC-2.ensures ∙ c.in_default-read_u2-3.is)) }
 
-pub returns-in-Ok : goal.returns-in-Ok
+pub returns-then-count-gt0 : goal.returns-then-count-gt0
 unfolding start_format
-returns-in-Ok c =
+returns-then-count-gt0 c =
     let a = c.args in
     let file = a.file.now in
     let before = a.table.now in
@@ -67,11 +67,11 @@ returns-in-Ok c =
     let number = count_is file magic minor major count in
     let kept = c.read_pool.ensures.keeps ∙ ap (λ (n : ℕ). placed (length before) (places_in file n)) (sym number)
     ∙ filled file before (long file magic minor major count) (magic_is file magic ∙ c.if-magic-eq-MAGIC.true) (subst (λ (n : ℕ). 0 < n) (sym number) c.if-count-gt0.true) in
-    let read = ended (read_by (pool_format (length file) (c.in-Some-read_u2-3.count - 1) false) file 10) (sym c.read_pool.ensures.answers ∙ c.in-Ok.is) in record { answers = told start_told (start_format (length file)) (number_right magic rightly (number_right minor refl (number_right major refl (number_right count some (rw place (then-read _ _ read.1 all_done)))))); keeps = kept }
+    let read = ended (read_by (pool_format (length file) (c.in-Some-read_u2-3.count - 1) false) file 10) (sym c.read_pool.ensures.answers ∙ c.in_ok-next.was) in record { answers = told start_told (start_format (length file)) (number_right magic rightly (number_right minor refl (number_right major refl (number_right count some (rw place (then-read _ _ read.1 all_done)))))); keeps = kept }
 
-pub returns-in-Err : goal.returns-in-Err
+pub returns-in_err-next : goal.returns-in_err-next
 unfolding start_format
-returns-in-Err c =
+returns-in_err-next c =
     let a = c.args in
     let file = a.file.now in
     let before = a.table.now in
@@ -84,7 +84,7 @@ returns-in-Err c =
     let place = pool_at file magic minor major count in
     let number = count_is file magic minor major count in
     let kept = c.read_pool.ensures.keeps ∙ ap (λ (n : ℕ). placed (length before) (places_in file n)) (sym number)
-    ∙ filled file before (long file magic minor major count) (magic_is file magic ∙ c.if-magic-eq-MAGIC.true) (subst (λ (n : ℕ). 0 < n) (sym number) c.if-count-gt0.true) in record { answers = told start_told (start_format (length file)) (number_right magic rightly (number_right minor refl (number_right major refl (number_right count some (rw place (then_wrong _ _ (sym c.read_pool.ensures.answers ∙ c.in-Err.is))))))); keeps = kept }
+    ∙ filled file before (long file magic minor major count) (magic_is file magic ∙ c.if-magic-eq-MAGIC.true) (subst (λ (n : ℕ). 0 < n) (sym number) c.if-count-gt0.true) in record { answers = passed_on c.from_residual.ensures.1 ∙ told start_told (start_format (length file)) (number_right magic rightly (number_right minor refl (number_right major refl (number_right count some (rw place (then_wrong _ _ _ (sym c.read_pool.ensures.answers ∙ c.in_err-next.was))))))); keeps = kept }
 
 pub returns-then-magic-eq-MAGIC : goal.returns-then-magic-eq-MAGIC
 unfolding start_format

@@ -19,7 +19,7 @@ returns-in_default c =
       [],
       a.at,
       no_times (code_attribute_format (names_by a.file.now a.table.now) a.limit) a.file.now a.at,
-      ap locals_of (failed (read_by (code_tables_format (names_by a.file.now a.table.now) a.limit) a.file.now a.at) (sym c.read_tables.ensures ∙ c.in_default.is)),
+      ap locals_of (failed _ (read_by (code_tables_format (names_by a.file.now a.table.now) a.limit) a.file.now a.at) (sym c.read_tables.ensures ∙ c.in_default.is)),
       omega arith,
     )
 

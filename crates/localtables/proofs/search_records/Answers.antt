@@ -11,7 +11,7 @@ use Rattle.classformat.specs.ClassFile.{local_format}
 use Rattle.entries.specs.Entries.{names_by}
 use Rattle.bodies.specs.Body.{record_told}
 use Rattle.bodies.specs.declared.LocalPlace.{LocalPlace}
-use Rattle.bodies.proofs.Told.{record_is, record_wrong}
+use Rattle.bodies.proofs.Told.{record_is}
 use Rattle.localtables.specs.Locals.{first_local}
 use Rattle.localtables.proofs.Behind.{never, some_left, none_left}
 use Rattle.localtables.proofs.First.{place_matches, place_passes}
@@ -28,7 +28,7 @@ returns-in_default c =
     λ locals end is.
     let now = l.invariant locals end is in
     let f = some_left one a.file.now l.at l.left c.loop-left-test.true now.1 in
-    never f.read (failed (read_by one a.file.now l.at) (record_wrong (read_by one a.file.now l.at) (sym c.read_local.ensures ∙ c.in_default.is)))
+    never f.read (failed _ (read_by one a.file.now l.at) (sym c.read_local.ensures ∙ c.in_default.is))
 
 pub returns-then-covers_load : goal.returns-then-covers_load
 returns-then-covers_load c =
@@ -38,7 +38,7 @@ returns-then-covers_load c =
     λ locals end is.
     let now = l.invariant locals end is in
     let f = some_left one a.file.now l.at l.left c.loop-left-test.true now.1 in
-    let same = record_is f.first f.next (sym (ap record_told f.read) ∙ sym c.read_local.ensures ∙ c.in-Read.is) in
+    let same = record_is f.first f.next (sym (ap record_told f.read) ∙ sym c.read_local.ensures ∙ c.in-Ok.is) in
     sym (now.2 ∙ ap (λ (ls : List Local). first_local ls a.slot a.load) f.whole ∙ place_matches a.slot a.load f.first f.rest f.next same (sym c.covers_load.ensures ∙ c.if-covers_load.true))
 
 pub loop-left-preserved : goal.loop-left-preserved
@@ -49,7 +49,7 @@ loop-left-preserved c =
     λ locals end is.
     let now = l.invariant locals end is in
     let f = some_left one a.file.now l.at l.left c.loop-left-test.true now.1 in
-    let same = record_is f.first f.next (sym (ap record_told f.read) ∙ sym c.read_local.ensures ∙ c.in-Read.is) in (
+    let same = record_is f.first f.next (sym (ap record_told f.read) ∙ sym c.read_local.ensures ∙ c.in-Ok.is) in (
       f.rest,
       subst (λ (n : ℕ). read_by (times (l.left - 1) one) a.file.now n ≡ right f.rest end) (ap (λ (p : LocalPlace). p.next) same) f.onward,
       now.2 ∙ ap (λ (ls : List Local). first_local ls a.slot a.load) f.whole ∙ place_passes a.slot a.load f.first f.rest f.next same (sym c.covers_load.ensures ∙ c.if-covers_load.false),

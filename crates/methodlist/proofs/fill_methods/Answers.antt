@@ -30,7 +30,7 @@ returns-in_default c =
 pub put_method-requires : goal.put_method-requires
 put_method-requires c =
     let a = c.args in
-    let l = c.loop-left in record { code_inside = told_inside a.file.now a.table.now l.at (sym c.read_method.ensures ∙ c.in-Read.is); k_in_bounds = omega (arith, l.invariant.0, c.loop-left-test.true) }
+    let l = c.loop-left in record { code_inside = told_inside a.file.now a.table.now l.at (sym c.read_method.ensures ∙ c.in-Ok.is); k_in_bounds = omega (arith, l.invariant.0, c.loop-left-test.true) }
 
 pub overflow_add-k : goal.overflow_add-k
 overflow_add-k c =
@@ -49,7 +49,7 @@ loop-left-preserved c =
     let l = c.loop-left in
     let some = c.loop-left-test.true in
     let one = method_format (names_by a.file.now a.table.now) (length a.file.now) in
-    let told = sym c.read_method.ensures ∙ c.in-Read.is in
+    let told = sym c.read_method.ensures ∙ c.in-Ok.is in
     let same = c.put_method.auto.numbers in (
       omega (arith, l.invariant.0, some, same),
       same ∙ l.invariant.1,

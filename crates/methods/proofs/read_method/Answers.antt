@@ -1,16 +1,15 @@
 -- `methods::read_method` meets its contract.
 -- Assumes nothing.
+use Rattle.std.specs.Prelude.{Ok, Option}
 use mathlib.Core.Path.{refl, ◌∙◌, sym, ap}
 use Rattle.format.specs.Format.{each, read_by}
-use Rattle.format.proofs.Items.{told, number_cut, number_bad, number_right, then-read, then_failed, all_done}
+use Rattle.format.proofs.Items.{passed_on, told, pair_read, number_cut, number_bad, number_right, then-read, then_wrong, all_done}
 use Rattle.classformat.specs.Contents.{bodiless}
 use Rattle.classformat.specs.ClassFile.{method_attribute_format, method_format}
 use Rattle.entries.specs.Entries.{names_by}
+use Rattle.bodies.specs.declared.CodePlace.{CodePlace}
 use Rattle.methods.specs.Method.{method_told}
-use Rattle.methods.specs.declared.BodyPlace.{BodyPlace}
 use Rattle.methods.specs.declared.MethodPlace.{MethodPlace}
-use Rattle.methods.specs.declared.MethodRead.TheVariants.{Read}
-use Rattle.methods.proofs.Told.{body_read, body_wrong}
 use Rattle.methods.proofs.read_method.Goals as goal
 
 pub returns-in_default : goal.returns-in_default
@@ -46,9 +45,9 @@ returns-in_default-read_u2-3 c =
     let described = sym c.is_name-then-is_name.ensures ∙ c.if-is_name-2.true in
     told method_told (method_format (names_by a.file.now a.table.now) a.limit) (number_right flags refl (number_right name named (number_right descriptor described (number_cut (sym c.read_u2-then-is_name-2.ensures ∙ c.in_default-read_u2-3.is)))))
 
-pub returns-in-Read : goal.returns-in-Read
+pub returns-then-is_name-2 : goal.returns-then-is_name-2
 unfolding method_format
-returns-in-Read c =
+returns-then-is_name-2 c =
     let a = c.args in
     let flags = sym c.read_u2.ensures ∙ c.in-Some.is in
     let name = sym c.read_u2-2.ensures ∙ c.in-Some-read_u2.is in
@@ -56,14 +55,14 @@ returns-in-Read c =
     let descriptor = sym c.read_u2-then-is_name.ensures ∙ c.in-Some-read_u2-2.is in
     let described = sym c.is_name-then-is_name.ensures ∙ c.if-is_name-2.true in
     let count = sym c.read_u2-then-is_name-2.ensures ∙ c.in-Some-read_u2-3.is in
-    let read = body_read (read_by (each c.in-Some-read_u2-3.count (method_attribute_format (names_by a.file.now a.table.now) a.limit) bodiless) a.file.now c.in-Some-read_u2-3.from) (sym c.read_method_attributes.ensures ∙ c.in-Read.is) in
-    let place : BodyPlace → MethodPlace = λ body. record { flags = c.in-Some.flags; name = c.in-Some-read_u2.name; descriptor = c.in-Some-read_u2-2.descriptor; body = body; next = c.in-Read.next } in
-    ap (λ (body : BodyPlace). Read (place body)) (sym read.2)
+    let read = pair_read _ (read_by (each c.in-Some-read_u2-3.count (method_attribute_format (names_by a.file.now a.table.now) a.limit) bodiless) a.file.now c.in-Some-read_u2-3.from) (sym c.read_method_attributes.ensures ∙ c.in_ok-body.was) in
+    let place : Option CodePlace → MethodPlace = λ body. record { flags = c.in-Some.flags; name = c.in-Some-read_u2.name; descriptor = c.in-Some-read_u2-2.descriptor; body = body; next = c.in_ok-body.next } in
+    ap (λ (body : Option CodePlace). Ok (place body)) (sym read.2)
     ∙ told method_told (method_format (names_by a.file.now a.table.now) a.limit) (number_right flags refl (number_right name named (number_right descriptor described (number_right count refl (then-read _ _ read.1 all_done)))))
 
-pub returns-in-Wrong : goal.returns-in-Wrong
+pub returns-in_err-body : goal.returns-in_err-body
 unfolding method_format
-returns-in-Wrong c =
+returns-in_err-body c =
     let a = c.args in
     let flags = sym c.read_u2.ensures ∙ c.in-Some.is in
     let name = sym c.read_u2-2.ensures ∙ c.in-Some-read_u2.is in
@@ -71,8 +70,7 @@ returns-in-Wrong c =
     let descriptor = sym c.read_u2-then-is_name.ensures ∙ c.in-Some-read_u2-2.is in
     let described = sym c.is_name-then-is_name.ensures ∙ c.if-is_name-2.true in
     let count = sym c.read_u2-then-is_name-2.ensures ∙ c.in-Some-read_u2-3.is in
-    let wrong-is = body_wrong (read_by (each c.in-Some-read_u2-3.count (method_attribute_format (names_by a.file.now a.table.now) a.limit) bodiless) a.file.now c.in-Some-read_u2-3.from) (sym c.read_method_attributes.ensures ∙ c.in-Wrong.is) in
-    told method_told (method_format (names_by a.file.now a.table.now) a.limit) (number_right flags refl (number_right name named (number_right descriptor described (number_right count refl (then_failed _ _ wrong-is)))))
+    passed_on c.from_residual.ensures.1 ∙ told method_told (method_format (names_by a.file.now a.table.now) a.limit) (number_right flags refl (number_right name named (number_right descriptor described (number_right count refl (then_wrong _ _ _ (sym c.read_method_attributes.ensures ∙ c.in_err-body.was))))))
 
 pub returns-then-is_name : goal.returns-then-is_name
 unfolding method_format

@@ -14,25 +14,25 @@ returns-in_default c =
     let a = c.args in
     λ before is. told body_told (method_attribute_format (names_by a.file.now a.table.now) a.limit before) (number_cut (sym c.read_u2.ensures ∙ c.in_default.is))
 
-pub returns-in-Bodiless : goal.returns-in-Bodiless
+pub returns-in-None : goal.returns-in-None
 unfolding method_attribute_format
-returns-in-Bodiless c =
+returns-in-None c =
     let a = c.args in
     let name = sym c.read_u2.ensures ∙ c.in-Some.is in
     let there = sym c.is_name.ensures ∙ c.if-is_name.true in
     let code = sym c.is_named.ensures ∙ c.if-is_named.true in
     λ before is.
     told body_told (method_attribute_format (names_by a.file.now a.table.now) a.limit before)
-    (number_right name (first_code (names_by a.file.now a.table.now) c.in-Some.name there before (is ∙ c.in-Bodiless.is)) (rw code (record { is = sym c.read_coded.ensures })))
+    (number_right name (first_code (names_by a.file.now a.table.now) c.in-Some.name there before (is ∙ c.in-None.is)) (rw code (record { is = sym c.read_coded.ensures })))
 
-pub returns-in-Coded : goal.returns-in-Coded
+pub returns-in-Some-body : goal.returns-in-Some-body
 unfolding method_attribute_format
-returns-in-Coded c =
+returns-in-Some-body c =
     let a = c.args in
     let name = sym c.read_u2.ensures ∙ c.in-Some.is in
     let there = sym c.is_name.ensures ∙ c.if-is_name.true in
     let code = sym c.is_named.ensures ∙ c.if-is_named.true in
-    λ before is. told body_told (method_attribute_format (names_by a.file.now a.table.now) a.limit before) (number_bad name (second_code (names_by a.file.now a.table.now) c.in-Some.name there code before (is ∙ c.in-Coded.is)))
+    λ before is. told body_told (method_attribute_format (names_by a.file.now a.table.now) a.limit before) (number_bad name (second_code (names_by a.file.now a.table.now) c.in-Some.name there code before (is ∙ c.in-Some-body.is)))
 
 pub returns-then-is_name : goal.returns-then-is_name
 unfolding method_attribute_format
