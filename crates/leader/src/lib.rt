@@ -30,13 +30,11 @@ fn entry_targets(
     requires { (pc < length code.now) × (from + count * step ≤ length code.now + 12) × (step ≤ 8) }
     ensures { result ≡ max best (greatest fault (entry_targets code.now pc step count from)) }
 {
-    let mut left = count;
     let mut at = from;
     let mut top = best;
-    while 0 < left {
+    for _ in 0..count {
         top = aim(0x8000_0000, pc + reads::read_i32(code, at), fault, top);
         at += step;
-        left -= 1;
     }
     top
 }
@@ -97,6 +95,7 @@ pub fn scan_with(code: &[u8], extra: usize, fault: usize) -> Result<Scanned, Sca
     let mut pc: usize = 0;
     let mut best: usize = raise(fault, 0, extra);
     let mut count: usize = 0;
+    // The places are those that the lengths give, so the loop is no `for`.
     while pc < code.len() {
         let Ok(bytes) = bytecode::length_by(&lengths, code, pc) else {
             return Err(Scanned { at: pc, count });
