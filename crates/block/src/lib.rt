@@ -84,10 +84,7 @@ fn push_copies(stack: &mut [u64], height: usize, count: usize, under: usize) -> 
     ensures { Laid stack.old result stack.new
         (applied cells 0 (does (count + under) (carried (copy_places count under))) (take height stack.old)) }
 {
-    if height < count {
-        return Err(Halt::Stops);
-    }
-    if height - count < under {
+    if height < count || height - count < under {
         return Err(Halt::Stops);
     }
     if stack.len() - height < count {
@@ -105,9 +102,7 @@ fn swap_top(stack: &mut [u64], height: usize) -> Result<usize, Halt>
     if height < 2 {
         return Err(Halt::Stops);
     }
-    let top = stack[height - 1];
-    stack[height - 1] = stack[height - 2];
-    stack[height - 2] = top;
+    stack.swap(height - 1, height - 2);
     Ok(height)
 }
 
@@ -212,6 +207,7 @@ fn walk_block(
     let mut pc = leader;
     let mut height: usize = 0;
     let mut completed: usize = 0;
+    // The places are those that the instructions go on at, so the loop is no `for`.
     while pc < fault {
         match step_at(
             model, &lengths, code, members, count, table, pc, fault, stack, height,
