@@ -110,10 +110,9 @@ fn swap_top(stack: &mut [u64], height: usize) -> Result<usize, Halt>
 fn apply(stack: &mut [u64], height: usize, pc: usize, effect: Effect) -> Result<usize, Halt>
     requires { Clean stack.old height }
     ensures { Laid stack.old result stack.new
-        (applied cells pc (effect_from effect) (take height stack.old)) }
+        (applied cells pc (effect_from (Some effect)) (take height stack.old)) }
 {
     match effect {
-        Effect::Fails => Err(Halt::Stops),
         Effect::Opaque { takes, gives } => push_opaque(stack, height, takes, gives),
         Effect::Load { local } => push_load(stack, height, pc, local),
         Effect::Copies { count, under } => push_copies(stack, height, count, under),
@@ -171,7 +170,9 @@ fn step_at(
         return Err(Halt::Stops);
     }
     let key = key::key_at(code, pc);
-    let effect = instruction::effect_of(model, key, code, members, count, table, pc);
+    let Some(effect) = instruction::effect_of(model, key, code, members, count, table, pc) else {
+        return Err(Halt::Stops);
+    };
     let size = size_by(lengths, key);
     let next = apply(stack, height, pc, effect)?;
     land(pc, fault, size, next)

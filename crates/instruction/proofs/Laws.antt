@@ -1,5 +1,6 @@
 -- A table that serves changes no lookup, and what an effect of the code stands for tells it.
 -- Assumes nothing.
+use Rattle.std.specs.Prelude.{Option, Some, None}
 use Prim.Native.Nat.{ℕ}
 use mathlib.Core.Path.{◌≡◌, refl, ◌∙◌, sym, ap, fun_ext}
 use Rattle.basics.specs.Choice.{pick}
@@ -11,29 +12,29 @@ use Rattle.instruction.specs.Code.{effect_from}
 use Rattle.instruction.specs.Laws.{LooksAlike, EffectFromInjective}
 use Rattle.instruction.specs.Lookup.{lookup_by}
 use Rattle.instruction.specs.declared.Effect.{Effect as CodeEffect}
-use Rattle.instruction.specs.declared.Effect.TheVariants.{Fails, Opaque, Load, Copies, Swap}
+use Rattle.instruction.specs.declared.Effect.TheVariants.{Opaque, Load, Copies, Swap}
 
 pub looks_alike : LooksAlike
 unfolding lookup_by lookup_in
 looks_alike members count table serves =
     fun_ext (λ kind. fun_ext (λ index. ap known_by (found-by members count table index kind serves)))
 
-abbrev pushing : ℕ → Push → CodeEffect
-pushing takes (blanks n) = Opaque takes n
-pushing takes (load local) = Load local
-pushing takes (carried places) = pick (is_swap takes places) Swap (Copies (count_of takes places) (under_of takes places))
-pushing takes (unread reason) = Fails
+abbrev pushing : ℕ → Push → Option CodeEffect
+pushing takes (blanks n) = Some (Opaque takes n)
+pushing takes (load local) = Some (Load local)
+pushing takes (carried places) = Some (pick (is_swap takes places) Swap (Copies (count_of takes places) (under_of takes places)))
+pushing takes (unread reason) = None
 
-abbrev code_of : Effect → CodeEffect
-code_of (fails reason) = Fails
+abbrev code_of : Effect → Option CodeEffect
+code_of (fails reason) = None
 code_of (does takes push) = pushing takes push
 
-back : (effect : CodeEffect) → code_of (effect_from effect) ≡ effect
-back Fails = refl
-back (Opaque takes gives) = refl
-back (Load local) = refl
-back (Copies count under) = copies_told Swap Copies count under
-back Swap = refl
+back : (effect : Option CodeEffect) → code_of (effect_from effect) ≡ effect
+back None = refl
+back (Some (Opaque takes gives)) = refl
+back (Some (Load local)) = refl
+back (Some (Copies count under)) = ap (λ (e : CodeEffect). Some e) (copies_told Swap Copies count under)
+back (Some Swap) = refl
 
 pub effect_from_injective : EffectFromInjective
 effect_from_injective one other e = sym (back one) ∙ ap code_of e ∙ back other

@@ -1,7 +1,7 @@
 -- A table that serves the run changes no lookup; and an effect of the code is told by what it stands for, so `effect_of` has
 -- one answer. Proved in proofs/Laws.antt.
 -- Assumes nothing.
-use Rattle.std.specs.Prelude.{ℕ, ◌≡◌, List}
+use Rattle.std.specs.Prelude.{ℕ, ◌≡◌, List, Option}
 use Rattle.index.specs.Index.{Indexed}
 use Rattle.effects.specs.Lookup.{lookup_in}
 use Rattle.instruction.specs.Code.{effect_from}
@@ -14,4 +14,4 @@ LooksAlike =
     lookup_by members count table ≡ lookup_in members count
 
 abbrev pub EffectFromInjective : Type 0
-EffectFromInjective = (one other : Effect) → effect_from one ≡ effect_from other → one ≡ other
+EffectFromInjective = (one other : Option Effect) → effect_from one ≡ effect_from other → one ≡ other

@@ -18,7 +18,6 @@ use row::Row;
 // What an instruction does to the slots.
 #[derive(Clone, Copy)]
 pub enum Effect {
-    Fails,
     // Takes slots and pushes opaque ones.
     Opaque { takes: usize, gives: usize },
     // Pushes the load of a local.
@@ -32,34 +31,31 @@ pub enum Effect {
 fn bytes_from(code: &[u8], pc: usize) -> usize
     ensures { result ≡ length code.now - pc }
 {
-    if code.len() < pc {
-        return 0;
-    }
-    code.len() - pc
+    code.len().saturating_sub(pc)
 }
 
 // The effect of `aload`, which names its local by a byte.
-fn load_effect(code: &[u8], pc: usize) -> Effect
+fn load_effect(code: &[u8], pc: usize) -> Option<Effect>
     ensures { effect_from result ≡ bare (effect_by nothing code.now pc aload_row) }
 {
     if bytes_from(code, pc) < 2 {
-        return Effect::Fails;
+        return None;
     }
-    Effect::Load {
+    Some(Effect::Load {
         local: code[pc + 1] as usize,
-    }
+    })
 }
 
 // The effect of `wide aload`, which names its local by the two bytes behind the opcode.
-fn far_effect(code: &[u8], pc: usize) -> Effect
+fn far_effect(code: &[u8], pc: usize) -> Option<Effect>
     ensures { effect_from result ≡ bare (effect_by nothing code.now pc far_row) }
 {
     if bytes_from(code, pc) < 4 {
-        return Effect::Fails;
+        return None;
     }
-    Effect::Load {
+    Some(Effect::Load {
         local: reads::read_u16(code, pc + 2),
-    }
+    })
 }
 
 // The texts of the member that the instruction at pc cites: none where its index is cut or there is no such member.
@@ -98,14 +94,14 @@ fn get_effect(
     table: &[usize],
     pc: usize,
     takes: usize,
-) -> Effect
+) -> Option<Effect>
     ensures { effect_from result ≡ bare (effect_by (lookup_by members.now count table.now)
         code.now pc (gets_row takes)) }
 {
     let Slots::Slots(gives) = cited_slots(code, members, count, table, pc) else {
-        return Effect::Fails;
+        return None;
     };
-    Effect::Opaque { takes, gives }
+    Some(Effect::Opaque { takes, gives })
 }
 
 // The effect of writing the field that the instruction at pc cites.
@@ -116,35 +112,35 @@ fn put_effect(
     table: &[usize],
     pc: usize,
     takes: usize,
-) -> Effect
+) -> Option<Effect>
     requires { takes ≤ 1 }
     ensures { effect_from result ≡ bare (effect_by (lookup_by members.now count table.now)
         code.now pc (puts_row takes)) }
 {
     let Slots::Slots(slots) = cited_slots(code, members, count, table, pc) else {
-        return Effect::Fails;
+        return None;
     };
-    Effect::Opaque {
+    Some(Effect::Opaque {
         takes: takes + slots,
         gives: 0,
-    }
+    })
 }
 
 // The effect of `multianewarray`, which names its dimensions by the third byte behind it.
-fn make_effect(code: &[u8], pc: usize) -> Effect
+fn make_effect(code: &[u8], pc: usize) -> Option<Effect>
     ensures { effect_from result ≡ bare (effect_by nothing code.now pc makes_row) }
 {
     if bytes_from(code, pc) < 4 {
-        return Effect::Fails;
+        return None;
     }
     let dimensions = code[pc + 3] as usize;
     if dimensions == 0 {
-        return Effect::Fails;
+        return None;
     }
-    Effect::Opaque {
+    Some(Effect::Opaque {
         takes: dimensions,
         gives: 1,
-    }
+    })
 }
 
 // The effect of calling the method that the instruction at pc cites.
@@ -155,29 +151,29 @@ fn call_effect(
     table: &[usize],
     pc: usize,
     takes: usize,
-) -> Effect
+) -> Option<Effect>
     requires { takes ≤ 1 }
     ensures { effect_from result ≡ bare (effect_by (lookup_by members.now count table.now)
         code.now pc (calls_row takes)) }
 {
     let texts = cited_texts(code, members, count, table, pc, 1);
     if texts.len() == 0 {
-        return Effect::Fails;
+        return None;
     }
     let signature = items::descriptor_of(texts);
     let Params::Read { slots: args, end } = descriptor::parse_method_params(signature) else {
-        return Effect::Fails;
+        return None;
     };
     let Slots::Slots(gives) = descriptor::slots_behind(signature, end) else {
-        return Effect::Fails;
+        return None;
     };
-    Effect::Opaque {
+    Some(Effect::Opaque {
         takes: takes + args,
         gives,
-    }
+    })
 }
 
-// The effect of the instruction at pc, whose key is given. Members are looked up by a table of the run.
+// The effect of the instruction at pc, whose key is given, or None where it fails. Members are looked up by a table of the run.
 pub fn effect_of(
     model: Model,
     key: Key,
@@ -186,25 +182,25 @@ pub fn effect_of(
     count: usize,
     table: &[usize],
     pc: usize,
-) -> Effect
+) -> Option<Effect>
     ensures { effect_from result ≡ bare (effect_by (lookup_by members.now count table.now)
         code.now pc (rows_of model (key_from key))) }
 {
     match row::row_in(model, key) {
-        Row::Unmodelled => Effect::Fails,
-        Row::Opaque { takes, gives } => Effect::Opaque { takes, gives },
+        Row::Unmodelled => None,
+        Row::Opaque { takes, gives } => Some(Effect::Opaque { takes, gives }),
         Row::Aload => load_effect(code, pc),
         Row::AloadFar => far_effect(code, pc),
-        Row::AloadOf { local } => Effect::Load { local },
+        Row::AloadOf { local } => Some(Effect::Load { local }),
         Row::Copies {
             count: copies,
             under,
-        } => Effect::Copies {
+        } => Some(Effect::Copies {
             count: copies,
             under,
-        },
-        Row::Swap => Effect::Swap,
-        Row::Keeps => Effect::Opaque { takes: 0, gives: 0 },
+        }),
+        Row::Swap => Some(Effect::Swap),
+        Row::Keeps => Some(Effect::Opaque { takes: 0, gives: 0 }),
         Row::Gets { takes } => get_effect(code, members, count, table, pc, takes),
         Row::Calls { takes } => call_effect(code, members, count, table, pc, takes),
         Row::Puts { takes } => put_effect(code, members, count, table, pc, takes),

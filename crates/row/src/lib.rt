@@ -13,6 +13,7 @@ use opcode::Opcode;
 // What an instruction does to the slots.
 #[derive(Clone, Copy)]
 pub enum Row {
+    // A walk fails here. It is a row and no None: else each other row of the tables below would be a Some.
     Unmodelled,
     // Takes slots and pushes opaque ones.
     Opaque { takes: usize, gives: usize },
