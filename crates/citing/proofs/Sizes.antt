@@ -1,5 +1,6 @@
 -- How long the texts of a class file are at most, turned and laid out: an array of so many bytes holds them.
 -- Assumes nothing.
+use Rattle.std.specs.Prelude.{Option, Some, None}
 use Prim.Native.Nat.{ℕ, zero, suc, ◌+◌, ◌*◌, ◌^◌, ◌/◌, ◌≤◌, ◌<◌}
 use native.Mathlib.Omega.{arith}
 use mathlib.Core.Path.{◌≡◌, refl}
@@ -22,7 +23,6 @@ use Rattle.classformat.specs.declared.Entry.{Entry}
 use Rattle.classformat.specs.declared.Entry.TheVariants.{Text, Class, Member, Named, Other, Nothing}
 use Rattle.entries.specs.Entries.{entry_behind, entry_at, entry_by, resolved_by}
 use Rattle.entries.specs.declared.Resolved.{Resolved}
-use Rattle.entries.specs.declared.Resolved.TheVariants as resolved
 use Rattle.classtexts.specs.Texts.{turned_member}
 use Rattle.classparts.specs.Parts.{text_by, member_as, member_by}
 use Rattle.citing.specs.Longest.{longest_run}
@@ -117,11 +117,11 @@ module _ (file table : List ℕ) (are : AreBytes file) where
 
   -- ---- the run of one member
 
-  abbrev Kind : Resolved → Type 0
-  Kind (resolved.Member kind class name descriptor) = kind ≤ 1
-  Kind resolved.Missing = Unit {0}
+  abbrev Kind : Option Resolved → Type 0
+  Kind (Some member) = member.kind ≤ 1
+  Kind None = Unit {0}
 
-  then-text : (e : Entry) (following : ℕ → ℕ → Resolved) → ((start size : ℕ) → Kind (following start size)) → Kind (then_text e resolved.Missing following)
+  then-text : (e : Entry) (following : ℕ → ℕ → Option Resolved) → ((start size : ℕ) → Kind (following start size)) → Kind (then_text e None following)
   then-text (Text start size) following so = so start size
   then-text (Class name) following so = tt
   then-text (Member kind class pair) following so = tt
@@ -129,7 +129,7 @@ module _ (file table : List ℕ) (are : AreBytes file) where
   then-text Other following so = tt
   then-text Nothing following so = tt
 
-  then-class : (e : Entry) (following : ℕ → Resolved) → ((name : ℕ) → Kind (following name)) → Kind (then_class e resolved.Missing following)
+  then-class : (e : Entry) (following : ℕ → Option Resolved) → ((name : ℕ) → Kind (following name)) → Kind (then_class e None following)
   then-class (Class name) following so = so name
   then-class (Text start size) following so = tt
   then-class (Member kind class pair) following so = tt
@@ -137,7 +137,7 @@ module _ (file table : List ℕ) (are : AreBytes file) where
   then-class Other following so = tt
   then-class Nothing following so = tt
 
-  then-named : (e : Entry) (following : ℕ → ℕ → Resolved) → ((name descriptor : ℕ) → Kind (following name descriptor)) → Kind (then_named e resolved.Missing following)
+  then-named : (e : Entry) (following : ℕ → ℕ → Option Resolved) → ((name descriptor : ℕ) → Kind (following name descriptor)) → Kind (then_named e None following)
   then-named (Named name descriptor) following so = so name descriptor
   then-named (Text start size) following so = tt
   then-named (Class name) following so = tt
@@ -146,8 +146,8 @@ module _ (file table : List ℕ) (are : AreBytes file) where
   then-named Nothing following so = tt
 
   then-member :
-      (e : Entry) → Small e → (following : ℕ → ℕ → ℕ → Resolved) →
-      ((kind class pair : ℕ) → kind ≤ 1 → Kind (following kind class pair)) → Kind (then_member e resolved.Missing following)
+      (e : Entry) → Small e → (following : ℕ → ℕ → ℕ → Option Resolved) →
+      ((kind class pair : ℕ) → kind ≤ 1 → Kind (following kind class pair)) → Kind (then_member e None following)
   then-member (Member kind class pair) small following so = so kind class pair small
   then-member (Text start size) small following so = tt
   then-member (Class name) small following so = tt
@@ -164,24 +164,24 @@ module _ (file table : List ℕ) (are : AreBytes file) where
       then-text (entry owner) _ (λ start size. then-text (entry name) _ (λ start size. then-text (entry descriptor) _ (λ start size. small))))))
 
   as_within :
-      (index : ℕ) → index < 2 ^ 64 → (r : Resolved) → Kind r → length (members_bytes (member_as file entry index r)) ≤ longest_run
+      (index : ℕ) → index < 2 ^ 64 → (r : Option Resolved) → Kind r → length (members_bytes (member_as file entry index r)) ≤ longest_run
   unfolding members_bytes member_bytes texts_bytes
-  as_within index small resolved.Missing so = omega arith
-  as_within index small (resolved.Member kind class name descriptor) so =
-      let m = turned_member index kind (text_by file entry class) (text_by file entry name) (text_by file entry descriptor) in
+  as_within index small None so = omega arith
+  as_within index small (Some member) so =
+      let m = turned_member index member.kind (text_by file entry member.class) (text_by file entry member.name) (text_by file entry member.descriptor) in
       let three = text_bytes m.class ++ (text_bytes m.name ++ text_bytes m.descriptor) in
       omega (
         arith,
         length-append (member_bytes m) [],
-        length-append (number_bytes index) (number_bytes kind ++ three),
-        length-append (number_bytes kind) three,
+        length-append (number_bytes index) (number_bytes member.kind ++ three),
+        length-append (number_bytes member.kind) three,
         length-append (text_bytes m.class) (text_bytes m.name ++ text_bytes m.descriptor),
         length-append (text_bytes m.name) (text_bytes m.descriptor),
         number-within index small,
-        short_within kind (omega (arith, so)),
-        laid_within class,
-        laid_within name,
-        laid_within descriptor,
+        short_within member.kind (omega (arith, so)),
+        laid_within member.class,
+        laid_within member.name,
+        laid_within member.descriptor,
       )
 
   -- a member run of one: two numbers, and three texts

@@ -10,7 +10,7 @@ ghost use Rattle.text.specs.Writing.{Written};
 ghost use Rattle.citing.specs.Longest.{longest_run};
 
 use classtexts::put_member_at;
-use entries::{Resolved, find_member, find_name};
+use entries::{find_member, find_name};
 
 // Writes the run from a place on. Where the number does not resolve to a member the run has none, and nothing is written.
 pub fn put_cited_at(out: &mut [u8], at: usize, file: &[u8], table: &[usize], index: usize) -> usize
@@ -18,17 +18,12 @@ pub fn put_cited_at(out: &mut [u8], at: usize, file: &[u8], table: &[usize], ind
         out.old result out.new }
     ensures few { length (members_bytes (member_by file.now (entry_by file.now table.now) index)) ≤ longest_run }
 {
-    let Resolved::Member {
-        kind,
-        class,
-        name,
-        descriptor,
-    } = find_member(file, table, index)
-    else {
+    let Some(member) = find_member(file, table, index) else {
         return at;
     };
-    let class_text = find_name(file, table, class);
-    let name_text = find_name(file, table, name);
-    let descriptor_text = find_name(file, table, descriptor);
+    let class_text = find_name(file, table, member.class);
+    let name_text = find_name(file, table, member.name);
+    let descriptor_text = find_name(file, table, member.descriptor);
+    let kind = member.kind;
     put_member_at(out, at, index, kind, class_text, name_text, descriptor_text)
 }

@@ -1,5 +1,6 @@
 -- The texts of a message, laid out one behind the other: how long they are at most, and that each part stands in a room that holds them.
 -- Assumes nothing.
+use Rattle.std.specs.Prelude.{Option, Some, None}
 use Prim.Native.Nat.{ℕ, ◌+◌, ◌-◌, ◌^◌, ◌≤◌, ◌<◌}
 use native.Mathlib.Omega.{arith}
 use mathlib.Core.Path.{◌≡◌, refl, ◌∙◌, sym, ap, ap₂, subst}
@@ -21,7 +22,6 @@ use Rattle.words.specs.declared.Wording.{Wording}
 use Rattle.classtexts.specs.Texts.{turned_local}
 use Rattle.classparts.specs.Parts.{text_by}
 use Rattle.localtables.specs.declared.LocalFound.{LocalFound}
-use Rattle.localtables.specs.declared.LocalFound.TheVariants.{Found, Missing}
 use Rattle.citing.specs.Longest.{longest_run}
 use Rattle.citing.proofs.Room.{stands, first_part, next_part}
 use Rattle.citing.proofs.Runs.{counted}
@@ -33,16 +33,17 @@ use Rattle.classmessage.specs.declared.Laid.{Laid}
 
 -- ---- the record that was found
 
-module _ (file table : List ℕ) (slot : ℕ) {found : LocalFound} where
-  pub no_record : found ≡ Missing → records_bytes (record_by file table slot found) ≡ []
+module _ (file table : List ℕ) (slot : ℕ) {found : Option LocalFound} where
+  pub no_record : found ≡ None → records_bytes (record_by file table slot found) ≡ []
   unfolding records_bytes
-  no_record is = ap (λ (f : LocalFound). records_bytes (record_by file table slot f)) is
+  no_record is = ap (λ (f : Option LocalFound). records_bytes (record_by file table slot f)) is
 
   pub one_record :
-      {start size name : ℕ} → found ≡ Found start size name →
-      records_bytes (record_by file table slot found) ≡ record_bytes (turned_local start size slot (text_by file (entry_by file table) name))
+      {one : LocalFound} → found ≡ Some one →
+      records_bytes (record_by file table slot found)
+      ≡ record_bytes (turned_local one.start one.size slot (text_by file (entry_by file table) one.name))
   unfolding records_bytes
-  one_record is = ap (λ (f : LocalFound). records_bytes (record_by file table slot f)) is ∙ append-nil _
+  one_record is = ap (λ (f : Option LocalFound). records_bytes (record_by file table slot f)) is ∙ append-nil _
 
 -- ---- lengths
 
@@ -106,9 +107,9 @@ module _ (file table : List ℕ) (t : Texts) (room after : List ℕ) (places : L
       let all = length-append (members ++ records) signature in
       (omega (arith, is.members, is.records, joined), omega (arith, is.records, is.whole.place, all))
 
-  found_so : (found : LocalFound) → found_count found ≡ length (record_by file table t.slot found)
-  found_so (Found start size name) = refl
-  found_so Missing = refl
+  found_so : (found : Option LocalFound) → found_count found ≡ length (record_by file table t.slot found)
+  found_so (Some one) = refl
+  found_so None = refl
 
   module _ (short : length room ≤ most) (fits : length (texts_bytes file table t) ≤ length room) where
     lengths : (places.members ≡ length members) × (places.records ≡ length members + length records) × (places.signature ≡ length members + length records + length signature)

@@ -1,12 +1,11 @@
 -- What is said of a fault in a method of a class file, by the texts that its message takes from the file (document 02, request 3).
 -- Assumes nothing.
-use Rattle.std.specs.Prelude.{ℕ, ◌≤◌, ◌≡◌, List, [], ◌∷◌, ◌++◌, length}
+use Rattle.std.specs.Prelude.{ℕ, ◌≤◌, ◌≡◌, List, [], ◌∷◌, ◌++◌, length, Option, Some, None}
 use Rattle.text.specs.Writing.{following, Written}
 use Rattle.cases.specs.LaidOut as laid
 use Rattle.cases.specs.LaidOut.{members_bytes, records_bytes}
 use Rattle.entries.specs.Entries.{entry_by}
 use Rattle.localtables.specs.declared.LocalFound.{LocalFound}
-use Rattle.localtables.specs.declared.LocalFound.TheVariants.{Found, Missing}
 use Rattle.message.specs.Message.{message_text}
 use Rattle.answer.specs.Answer.{kind_of, Said, said}
 use Rattle.words.specs.declared.Wording.{Wording}
@@ -25,15 +24,15 @@ abbrev pub longest_texts : ℕ
 longest_texts = 393266
 
 -- how many records were found
-abbrev pub found_count : LocalFound → ℕ
-found_count (Found start size name) = 1
-found_count Missing = 0
+abbrev pub found_count : Option LocalFound → ℕ
+found_count (Some found) = 1
+found_count None = 0
 
 module _ (file table : List ℕ) where
   -- the record that was found, alone, as that of a slot
-  abbrev pub record_by : ℕ → LocalFound → List laid.Local
-  record_by slot (Found start size name) = turned_local start size slot (text_by file (entry_by file table) name) ∷ []
-  record_by slot Missing = []
+  abbrev pub record_by : ℕ → Option LocalFound → List laid.Local
+  record_by slot (Some found) = turned_local found.start found.size slot (text_by file (entry_by file table) found.name) ∷ []
+  record_by slot None = []
 
   abbrev pub member_in : Texts → List laid.Member
   member_in t = member_by file (entry_by file table) t.cited

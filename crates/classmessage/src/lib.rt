@@ -27,7 +27,7 @@ const USUAL: usize = 4096;
 #[derive(Clone, Copy)]
 pub struct Texts {
     pub cited: usize,
-    pub found: LocalFound,
+    pub found: Option<LocalFound>,
     pub slot: usize,
     pub name: usize,
     pub descriptor: usize,
@@ -52,16 +52,12 @@ pub struct Laid {
 }
 
 // How many records were found.
-fn found_count(found: LocalFound) -> usize
+fn found_count(found: Option<LocalFound>) -> usize
     ensures { result ≡ found_count found }
 {
     match found {
-        LocalFound::Found {
-            start: _,
-            size: _,
-            name: _,
-        } => 1,
-        LocalFound::Missing => 0,
+        Some(_) => 1,
+        None => 0,
     }
 }
 
@@ -71,18 +67,18 @@ fn put_found_at(
     at: usize,
     file: &[u8],
     table: &[usize],
-    found: LocalFound,
+    found: Option<LocalFound>,
     slot: usize,
 ) -> usize
     ensures writes { Written at (records_bytes (record_by file.now table.now slot found)) out.old result out.new }
     ensures few { length (records_bytes (record_by file.now table.now slot found)) ≤ longest_record }
 {
     match found {
-        LocalFound::Found { start, size, name } => {
-            let text = find_name(file, table, name);
-            put_record_at(out, at, start, size, slot, text)
+        Some(record) => {
+            let text = find_name(file, table, record.name);
+            put_record_at(out, at, record.start, record.size, slot, text)
         }
-        LocalFound::Missing => at,
+        None => at,
     }
 }
 

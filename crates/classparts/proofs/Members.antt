@@ -1,6 +1,7 @@
 -- The members of a class file: each is one that resolves fully, each number has its own, and they are right in a case.
 -- Rests on: what comes of a class file (Reading); no text grows when it is turned (crates/utf8).
 -- Assumes nothing.
+use Rattle.std.specs.Prelude.{Option, Some, None}
 use Prim.Native.Nat.{ℕ, suc, ◌+◌, ◌≤◌, ◌<◌}
 use native.Mathlib.Omega.{arith}
 use mathlib.Core.Path.{◌≡◌, refl, ◌∙◌, sym, ap, subst}
@@ -22,7 +23,6 @@ use Rattle.classformat.specs.declared.Entry.{Entry}
 use Rattle.classformat.specs.declared.Entry.TheVariants.{Text, Class, Member, Named, Other, Nothing}
 use Rattle.entries.specs.Entries.{resolved_by}
 use Rattle.entries.specs.declared.Resolved.{Resolved}
-use Rattle.entries.specs.declared.Resolved.TheVariants as resolved
 use Rattle.entries.proofs.Resolving.{whole}
 use Rattle.single.specs.Single.{first, only}
 use Rattle.classtexts.specs.Texts.{turned_member}
@@ -81,20 +81,21 @@ module _ (file : List ℕ) (entry : ℕ → Entry) where
       record { start = start; size = size; found = is; bytes = ap (λ (e : Entry). spelled (name_of file e)) is }
 
   -- what is resolved is declared so
-  abbrev Declares : ℕ → Resolved → Type 0
-  Declares number (resolved.Member kind class name descriptor) =
-      Resolves file entry number kind (text_by file entry class) (text_by file entry name) (text_by file entry descriptor)
-  Declares number resolved.Missing = Unit {0}
+  abbrev Declares : ℕ → Option Resolved → Type 0
+  Declares number (Some member) =
+      Resolves file entry number member.kind (text_by file entry member.class) (text_by file entry member.name)
+      (text_by file entry member.descriptor)
+  Declares number None = Unit {0}
 
   declares : (number : ℕ) → Declares number (resolved_by entry number)
   unfolding resolved_by
   declares number =
-      by_member (Declares number) resolved.Missing tt (entry number) _ (λ kind owner pair member.
-      by_class (Declares number) resolved.Missing tt (entry owner) _ (λ class owned.
-      by_named (Declares number) resolved.Missing tt (entry pair) _ (λ name descriptor paired.
-      by_text (Declares number) resolved.Missing tt (entry class) _ (λ a i class_text.
-      by_text (Declares number) resolved.Missing tt (entry name) _ (λ b j name_text.
-      by_text (Declares number) resolved.Missing tt (entry descriptor) _ (λ d k descriptor_text.
+      by_member (Declares number) None tt (entry number) _ (λ kind owner pair member.
+      by_class (Declares number) None tt (entry owner) _ (λ class owned.
+      by_named (Declares number) None tt (entry pair) _ (λ name descriptor paired.
+      by_text (Declares number) None tt (entry class) _ (λ a i class_text.
+      by_text (Declares number) None tt (entry name) _ (λ b j name_text.
+      by_text (Declares number) None tt (entry descriptor) _ (λ d k descriptor_text.
       record {
         owner = owner;
         pair = pair;
@@ -131,12 +132,12 @@ module _ (file : List ℕ) (entry : ℕ → Entry) where
   resolved_fully number = by (resolved_by entry number) (declares number)
     where
       by :
-          (r : Resolved) → Declares number r →
+          (r : Option Resolved) → Declares number r →
           (member_as file entry number r ≡ [])
           ⊎ ((kind : ℕ) × (class name descriptor : List ℕ) × Resolves file entry number kind class name descriptor)
-      by (resolved.Member kind class name descriptor) is =
-          inr (kind, text_by file entry class, text_by file entry name, text_by file entry descriptor, is)
-      by resolved.Missing is = inl refl
+      by (Some member) is =
+          inr (member.kind, text_by file entry member.class, text_by file entry member.name, text_by file entry member.descriptor, is)
+      by None is = inl refl
 
   -- ---- a member alone, with its number
 
@@ -149,9 +150,9 @@ module _ (file : List ℕ) (entry : ℕ → Entry) where
   unfolding member_by
   alone number = by (resolved_by entry number)
     where
-      by : (r : Resolved) → Alone number (member_as file entry number r)
-      by (resolved.Member kind class name descriptor) = refl
-      by resolved.Missing = tt
+      by : (r : Option Resolved) → Alone number (member_as file entry number r)
+      by (Some member) = refl
+      by None = tt
 
   -- one that has another number is passed
   other :
@@ -226,18 +227,18 @@ module _ (file : List ℕ) (entry : ℕ → Entry) where
     unfolding member_by
     right_alone number low = by (resolved_by entry number) (declares number)
       where
-        by : (r : Resolved) → Declares number r → RightAlone number (member_as file entry number r)
-        by (resolved.Member kind class name descriptor) is = (
+        by : (r : Option Resolved) → Declares number r → RightAlone number (member_as file entry number r)
+        by (Some member) is = (
           refl,
           record {
             index = low;
             kind = subst (EntryRight file) is.member (all number);
-            class = text_short class;
-            name = text_short name;
-            descriptor = text_short descriptor;
+            class = text_short member.class;
+            name = text_short member.name;
+            descriptor = text_short member.descriptor;
           },
         )
-        by resolved.Missing is = tt
+        by None is = tt
 
     right_then :
         (last number : ℕ) (ms rest : List laid.Member) → RightAlone number ms → last < number →

@@ -1,7 +1,7 @@
 -- The parts of a class file's method, which are those of the case that the file stands for (document 02, request 3: the caller "gets the
 -- same answer as for the case with the same parts").
 -- Assumes nothing.
-use Rattle.std.specs.Prelude.{ℕ, suc, List, [], ◌∷◌, ◌++◌, length}
+use Rattle.std.specs.Prelude.{ℕ, suc, List, [], ◌∷◌, ◌++◌, length, Option, Some, None}
 use Rattle.casefile.specs.Parts.{Parts}
 use Rattle.cases.specs.LaidOut as laid
 use Rattle.format.specs.Format.{bytes_at}
@@ -9,7 +9,6 @@ use Rattle.classformat.specs.Contents.{Pool, entry_in, name_of, spelled, Local, 
 use Rattle.classformat.specs.declared.Entry.{Entry}
 use Rattle.entries.specs.Entries.{resolved_by}
 use Rattle.entries.specs.declared.Resolved.{Resolved}
-use Rattle.entries.specs.declared.Resolved.TheVariants.{Member, Missing}
 use Rattle.classtexts.specs.Texts.{turned_member, turned_local, signature_of}
 
 module _ (file : List ℕ) (entry : ℕ → Entry) where
@@ -20,10 +19,10 @@ module _ (file : List ℕ) (entry : ℕ → Entry) where
   -- ---- members
 
   -- a member by the numbers of its texts
-  abbrev pub member_as : ℕ → Resolved → List laid.Member
-  member_as number (Member kind class name descriptor) =
-      turned_member number kind (text_by class) (text_by name) (text_by descriptor) ∷ []
-  member_as number Missing = []
+  abbrev pub member_as : ℕ → Option Resolved → List laid.Member
+  member_as number (Some member) =
+      turned_member number member.kind (text_by member.class) (text_by member.name) (text_by member.descriptor) ∷ []
+  member_as number None = []
 
   -- the member with a number, alone, and none where it does not resolve
   unfoldable pub member_by : ℕ → List laid.Member

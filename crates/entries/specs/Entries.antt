@@ -1,15 +1,13 @@
 -- What a pool number leads to, by a table of the places where the pool's entries stand: where the table serves the pool, this is what the
 -- pool holds. And a member that resolves fully (document 02, request 3).
 -- Assumes nothing.
-use Rattle.std.specs.Prelude.{ℕ, ◌+◌, List, [], ◌∷◌, ◌≡◌, eqb, ltb, length, get_or}
+use Rattle.std.specs.Prelude.{ℕ, ◌+◌, List, [], ◌∷◌, ◌≡◌, eqb, ltb, length, get_or, Option, Some, None}
 use Rattle.basics.specs.Bytes.{byte_at, u16_at}
 use Rattle.basics.specs.Choice.{pick, one_of}
 use Rattle.classformat.specs.Contents.{Pool, entry_in, then_text, then_class, then_member, then_named, Name, name_of}
 use Rattle.classformat.specs.declared.Entry.{Entry}
 use Rattle.classformat.specs.declared.Entry.TheVariants.{Text, Class, Member, Named, Other, Nothing}
 use Rattle.entries.specs.declared.Resolved.{Resolved}
-use Rattle.entries.specs.declared.Resolved.TheVariants as resolved
-use Rattle.entries.specs.declared.Resolved.TheVariants.{Missing}
 
 -- behind a tag (4.4, Table 4.4-A)
 unfoldable pub entry_behind : List ℕ → ℕ → ℕ → Entry
@@ -40,10 +38,10 @@ Serves file table pool = (index : ℕ) → entry_by file table index ≡ entry_i
 
 -- ---- a member that resolves fully: to a class with a name, and to a name and a descriptor
 
-unfoldable pub resolved_by : (ℕ → Entry) → ℕ → Resolved
+unfoldable pub resolved_by : (ℕ → Entry) → ℕ → Option Resolved
 resolved_by entry index =
-    then_member (entry index) Missing (λ kind class pair.
-    then_class (entry class) Missing (λ owner.
-    then_named (entry pair) Missing (λ name descriptor.
-    then_text (entry owner) Missing (λ start size. then_text (entry name) Missing (λ start size. then_text (entry descriptor) Missing (λ start size.
-    resolved.Member kind owner name descriptor))))))
+    then_member (entry index) None (λ kind class pair.
+    then_class (entry class) None (λ owner.
+    then_named (entry pair) None (λ name descriptor.
+    then_text (entry owner) None (λ start size. then_text (entry name) None (λ start size. then_text (entry descriptor) None (λ start size.
+    Some (record { kind = kind; class = owner; name = name; descriptor = descriptor })))))))

@@ -13,14 +13,11 @@ use reads::read_u16;
 
 // A member that resolves fully: its kind, and the numbers of its three texts.
 #[derive(Clone, Copy)]
-pub enum Resolved {
-    Member {
-        kind: usize,
-        class: usize,
-        name: usize,
-        descriptor: usize,
-    },
-    Missing,
+pub struct Resolved {
+    pub kind: usize,
+    pub class: usize,
+    pub name: usize,
+    pub descriptor: usize,
 }
 
 // The place that a table has for a number, 0 where it has none.
@@ -110,31 +107,31 @@ pub fn find_name<'a>(file: &'a [u8], table: &[usize], index: usize) -> &'a [u8]
 }
 
 // The member with a number, where it resolves fully.
-pub fn find_member(file: &[u8], table: &[usize], index: usize) -> Resolved
+pub fn find_member(file: &[u8], table: &[usize], index: usize) -> Option<Resolved>
     ensures { result ≡ resolved_by (entry_by file.now table.now) index }
 {
     let Entry::Member { kind, class, named } = entry_at(file, table, index) else {
-        return Resolved::Missing;
+        return None;
     };
     let Entry::Class { name: owner } = entry_at(file, table, class) else {
-        return Resolved::Missing;
+        return None;
     };
     let Entry::Named { name, descriptor } = entry_at(file, table, named) else {
-        return Resolved::Missing;
+        return None;
     };
     let Entry::Text { start: _, size: _ } = entry_at(file, table, owner) else {
-        return Resolved::Missing;
+        return None;
     };
     let Entry::Text { start: _, size: _ } = entry_at(file, table, name) else {
-        return Resolved::Missing;
+        return None;
     };
     let Entry::Text { start: _, size: _ } = entry_at(file, table, descriptor) else {
-        return Resolved::Missing;
+        return None;
     };
-    Resolved::Member {
+    Some(Resolved {
         kind,
         class: owner,
         name,
         descriptor,
-    }
+    })
 }

@@ -1,11 +1,10 @@
 -- The first local record that matches, declared: it matches, and none before it does.
 -- Assumes nothing.
-use Rattle.std.specs.Prelude.{ℕ, true, false, List, [], ◌∷◌, ◌++◌, ◌≡◌}
+use Rattle.std.specs.Prelude.{ℕ, true, false, List, [], ◌∷◌, ◌++◌, ◌≡◌, Option, Some, None}
 use Rattle.classformat.specs.Contents.{Local}
 use Rattle.search.specs.Search.{covers}
 use Rattle.localtables.specs.Locals.{first_local}
 use Rattle.localtables.specs.declared.LocalFound.{LocalFound}
-use Rattle.localtables.specs.declared.LocalFound.TheVariants.{Found, Missing}
 
 abbrev pub NoneCovers : ℕ → ℕ → List Local → Type 0
 NoneCovers slot load [] = Unit
@@ -22,9 +21,9 @@ pub record FirstLocal (slot load : ℕ) (locals : List Local) (start size name :
   pub is : (start ≡ first.start) × (size ≡ first.size) × (name ≡ first.name)
 
 -- what an answer means
-abbrev pub Means : ℕ → ℕ → List Local → LocalFound → Type 0
-Means slot load locals (Found start size name) = FirstLocal slot load locals start size name
-Means slot load locals Missing = NoneCovers slot load locals
+abbrev pub Means : ℕ → ℕ → List Local → Option LocalFound → Type 0
+Means slot load locals (Some found) = FirstLocal slot load locals found.start found.size found.name
+Means slot load locals None = NoneCovers slot load locals
 
 -- the answer is the first match
 abbrev pub FirstLocalDeclared : Type 0

@@ -15,16 +15,13 @@ use entries::is_named;
 use format::{read_u2, read_window};
 use search::covers_load;
 
-// The local record that names a local at an instruction.
+// The local record that names a local at an instruction: where the local is in scope and for how many bytes, and the pool number of its
+// name.
 #[derive(Clone, Copy)]
-pub enum LocalFound {
-    // Where the local is in scope and for how many bytes, and the pool number of its name.
-    Found {
-        start: usize,
-        size: usize,
-        name: usize,
-    },
-    Missing,
+pub struct LocalFound {
+    pub start: usize,
+    pub size: usize,
+    pub name: usize,
 }
 
 // The local records of one attribute of a Code, none where it is no local table: where they start, how many they are, and where the
@@ -50,7 +47,7 @@ fn search_records(
     records: RecordsPlace,
     slot: usize,
     load: usize,
-) -> LocalFound
+) -> Option<LocalFound>
     ensures { (locals : List Local) (end : ℕ) →
         read_by (times records.count (local_format (names_by file.now table.now) records.stop))
         file.now records.from ≡ right locals end →
@@ -61,19 +58,19 @@ fn search_records(
     let mut left = records.count;
     while 0 < left {
         let Ok(local) = read_local(file, table, at, limit) else {
-            return LocalFound::Missing;
+            return None;
         };
         if covers_load(local.start, local.size, local.slot, slot, load) {
-            return LocalFound::Found {
+            return Some(LocalFound {
                 start: local.start,
                 size: local.size,
                 name: local.name,
-            };
+            });
         }
         at = local.next;
         left -= 1;
     }
-    LocalFound::Missing
+    None
 }
 
 // The local records of the attribute at a place.
@@ -115,7 +112,7 @@ fn search_attributes(
     limit: usize,
     slot: usize,
     load: usize,
-) -> LocalFound
+) -> Option<LocalFound>
     ensures { (tables : List (List Local)) (end : ℕ) →
         read_by (times attributes.count (code_attribute_format (names_by file.now table.now) limit))
         file.now attributes.from ≡ right tables end →
@@ -126,15 +123,15 @@ fn search_attributes(
     while 0 < left {
         let records = records_at(file, table, at, limit);
         match search_records(file, table, records, slot, load) {
-            LocalFound::Found { start, size, name } => {
-                return LocalFound::Found { start, size, name };
+            Some(found) => {
+                return Some(found);
             }
-            LocalFound::Missing => {}
+            None => {}
         }
         at = records.stop;
         left -= 1;
     }
-    LocalFound::Missing
+    None
 }
 
 // The attributes of the Code whose instructions end at a place, none where its tables are wrong.
@@ -165,7 +162,7 @@ pub fn find_local(
     limit: usize,
     slot: usize,
     load: usize,
-) -> LocalFound
+) -> Option<LocalFound>
     ensures { result ≡ local_told slot load (read_by (code_tables_format (names_by file.now table.now) limit)
         file.now at) }
 {

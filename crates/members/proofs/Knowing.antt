@@ -1,6 +1,6 @@
 -- What is known of a member, by the tests that the code makes: no texts or some in a run; resolved or not, and of which kind, in a pool.
 -- Assumes nothing.
-use Rattle.std.specs.Prelude.{Some}
+use Rattle.std.specs.Prelude.{Some, None}
 use Prim.Native.Nat.{ℕ}
 use mathlib.Core.Path.{◌≡◌, ◌∙◌}
 use mathlib.Core.List.{List}
@@ -14,7 +14,7 @@ use Rattle.items.specs.Text.{descriptor_of}
 use Rattle.index.specs.Index.{found_by}
 use Rattle.classformat.specs.Contents.{spelled}
 use Rattle.entries.specs.Entries.{entry_by, names_by, resolved_by}
-use Rattle.entries.specs.declared.Resolved.TheVariants.{Member, Missing}
+use Rattle.entries.specs.declared.Resolved.{Resolved}
 use Rattle.effects.specs.Lookup.{missing, known}
 use Rattle.effects.proofs.Known.{known_none, known_some}
 use Rattle.members.specs.Members.{lookup_by, pool_lookup, signature_of}
@@ -35,18 +35,18 @@ module _ (members : List ℕ) (count : ℕ) (table : List ℕ) (kind index : ℕ
 -- ---- in a pool
 
 module _ (file table : List ℕ) (kind index : ℕ) where
-  pub pool_none : resolved_by (entry_by file table) index ≡ Missing → pool_lookup file table kind index ≡ missing
+  pub pool_none : resolved_by (entry_by file table) index ≡ None → pool_lookup file table kind index ≡ missing
   unfolding pool_lookup
   pool_none e = rw e
 
-  module _ (own class name descriptor : ℕ) (e : resolved_by (entry_by file table) index ≡ Member own class name descriptor) where
-    pub pool_other : (own ≡ kind → ⊥) → pool_lookup file table kind index ≡ missing
+  module _ (member : Resolved) (e : resolved_by (entry_by file table) index ≡ Some member) where
+    pub pool_other : (member.kind ≡ kind → ⊥) → pool_lookup file table kind index ≡ missing
     unfolding pool_lookup
-    pool_other other = rw (e, ne_eqb own kind other)
+    pool_other other = rw (e, ne_eqb member.kind kind other)
 
-    pub pool_some : own ≡ kind → pool_lookup file table kind index ≡ known (spelled (names_by file table descriptor))
+    pub pool_some : member.kind ≡ kind → pool_lookup file table kind index ≡ known (spelled (names_by file table member.descriptor))
     unfolding pool_lookup
-    pool_some same = rw (e, eq-eqb own kind same)
+    pool_some same = rw (e, eq-eqb member.kind kind same)
 
 -- ---- the slots of a call, by its descriptor
 

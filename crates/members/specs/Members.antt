@@ -1,7 +1,7 @@
 -- What a walk knows of a member, by where members are looked up: in a run by a table of it (crates/index/specs/Index.antt), or in a class
 -- file by a table of its pool's places (crates/entries/specs/Entries.antt).
 -- Assumes nothing.
-use Rattle.std.specs.Prelude.{ℕ, ◌+◌, ◌^◌, ◌<◌, List, eqb}
+use Rattle.std.specs.Prelude.{ℕ, ◌+◌, ◌^◌, ◌<◌, List, eqb, Option, Some, None}
 use Rattle.basics.specs.Choice.{pick}
 use Rattle.descriptor.specs.Readers.{parameters, return_slots, field_slots}
 use Rattle.descriptor.specs.declared.Params.{Params}
@@ -12,7 +12,6 @@ use Rattle.index.specs.Index.{Indexed, found_by}
 use Rattle.classformat.specs.Contents.{spelled}
 use Rattle.entries.specs.Entries.{entry_by, names_by, resolved_by}
 use Rattle.entries.specs.declared.Resolved.{Resolved}
-use Rattle.entries.specs.declared.Resolved.TheVariants.{Member, Missing}
 use Rattle.effects.specs.Lookup.{Known, missing, known, Lookup, known_by, lookup_in}
 use Rattle.members.specs.declared.Source.{Source}
 use Rattle.members.specs.declared.Source.TheVariants.{Run, Pool}
@@ -26,10 +25,10 @@ unfoldable pub lookup_by : List ℕ → ℕ → List ℕ → Lookup
 lookup_by members count table kind index = known_by (found_by members count table index kind)
 
 -- the descriptor of a member that resolved, where it is of the kind that is asked for
-abbrev pub known_as : List ℕ → List ℕ → ℕ → Resolved → Known
-known_as file table kind (Member own class name descriptor) =
-    pick (eqb own kind) (known (spelled (names_by file table descriptor))) missing
-known_as file table kind Missing = missing
+abbrev pub known_as : List ℕ → List ℕ → ℕ → Option Resolved → Known
+known_as file table kind (Some member) =
+    pick (eqb member.kind kind) (known (spelled (names_by file table member.descriptor))) missing
+known_as file table kind None = missing
 
 -- "The table handed to demand 2 holds each member that resolves fully" (document 02, request 3); its descriptor as the file spells it
 unfoldable pub pool_lookup : List ℕ → List ℕ → Lookup

@@ -5,7 +5,7 @@ ghost use Rattle.std.specs.Prelude.{◌≡◌};
 ghost use Rattle.members.specs.Members.{lookup_by, pool_lookup, lookup_from, slots_known, signature_of, call_known, Few};
 
 use descriptor::{Params, Slots, slots_of_field_type};
-use entries::{Resolved, find_name};
+use entries::{find_member, find_name};
 use index::find_indexed;
 use items::descriptor_of;
 
@@ -66,17 +66,11 @@ fn run_call(members: &[u8], count: usize, table: &[usize], index: usize) -> Call
 fn pool_field(file: &[u8], table: &[usize], index: usize) -> Slots
     ensures { result ≡ slots_known (pool_lookup file.now table.now 0 index) }
 {
-    let Resolved::Member {
-        kind,
-        class: _,
-        name: _,
-        descriptor,
-    } = entries::find_member(file, table, index)
-    else {
+    let Some(member) = find_member(file, table, index) else {
         return Slots::Unreadable;
     };
-    if kind == 0 {
-        return Slots::Slots(slots_of_field_type(find_name(file, table, descriptor)));
+    if member.kind == 0 {
+        return Slots::Slots(slots_of_field_type(find_name(file, table, member.descriptor)));
     }
     Slots::Unreadable
 }
@@ -86,17 +80,11 @@ fn pool_call(file: &[u8], table: &[usize], index: usize) -> Call
     ensures reads { result ≡ call_known (pool_lookup file.now table.now 1 index) }
     ensures few { Few result }
 {
-    let Resolved::Member {
-        kind,
-        class: _,
-        name: _,
-        descriptor,
-    } = entries::find_member(file, table, index)
-    else {
+    let Some(member) = find_member(file, table, index) else {
         return Call::Unreadable;
     };
-    if kind == 1 {
-        return signature_slots(find_name(file, table, descriptor));
+    if member.kind == 1 {
+        return signature_slots(find_name(file, table, member.descriptor));
     }
     Call::Unreadable
 }

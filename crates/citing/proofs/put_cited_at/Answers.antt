@@ -25,7 +25,7 @@ returns-in_default c =
 pub returns : goal.returns
 returns c =
     let a = c.args in
-    let is = sym c.find_member.ensures ∙ c.in-Member.is in
+    let is = sym c.find_member.ensures ∙ c.in-Some.is in
     let w = c.put_member_at in
     let writes : Written a.at (members_bytes (member_by a.file.now (entry_by a.file.now a.table.now) a.index)) a.out.now w.result w.new.out =
     subst (λ (t : List ℕ). Written a.at t a.out.now w.result w.new.out) (sym (one_run a.file.now a.table.now a.index is))

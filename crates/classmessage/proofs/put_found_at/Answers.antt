@@ -15,20 +15,20 @@ use Rattle.classmessage.proofs.Rooms.{no_record, one_record, record-within}
 use borrow.Author.Rules.{rules}
 use Rattle.classmessage.proofs.put_found_at.Goals as goal
 
-pub returns-in-Found : goal.returns-in-Found
-returns-in-Found c =
+pub returns-in-Some : goal.returns-in-Some
+returns-in-Some c =
     let a = c.args in
-    let one = one_record a.file.now a.table.now a.slot c.in-Found.is in
-    let text : c.find_name-text.result.now ≡ text_by a.file.now (entry_by a.file.now a.table.now) c.in-Found.name =
+    let one = one_record a.file.now a.table.now a.slot c.in-Some.is in
+    let text : c.find_name-text.result.now ≡ text_by a.file.now (entry_by a.file.now a.table.now) c.in-Some.record.name =
     c.find_name-text.ensures in
     let are : AreBytes a.file.now = λ i. (c.type_inv.file i).fits in record {
       writes = subst (λ (t : List ℕ). Written a.at t a.out.now c.put_record_at.result c.put_record_at.new.out) (sym one)
           (rw (← text) c.put_record_at.ensures);
       few = subst (λ (t : List ℕ). length t ≤ longest_record) (sym one)
-          (record-within a.file.now a.table.now are a.slot c.in-Found.start c.in-Found.size c.in-Found.name (omega arith) (omega arith) (omega arith));
+          (record-within a.file.now a.table.now are a.slot c.in-Some.record.start c.in-Some.record.size c.in-Some.record.name (omega arith) (omega arith) (omega arith));
     }
 
-pub returns-in-Missing : goal.returns-in-Missing
-returns-in-Missing c =
+pub returns-in-None : goal.returns-in-None
+returns-in-None c =
     let a = c.args in
-    let none = no_record a.file.now a.table.now a.slot c.in-Missing.is in record { writes = subst (λ (t : List ℕ). Written a.at t a.out.now a.at a.out.now) (sym none) (written_none a.out.now (search rules)); few = subst (λ (t : List ℕ). length t ≤ longest_record) (sym none) (omega arith) }
+    let none = no_record a.file.now a.table.now a.slot c.in-None.is in record { writes = subst (λ (t : List ℕ). Written a.at t a.out.now a.at a.out.now) (sym none) (written_none a.out.now (search rules)); few = subst (λ (t : List ℕ). length t ≤ longest_record) (sym none) (omega arith) }

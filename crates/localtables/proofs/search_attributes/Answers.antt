@@ -16,9 +16,9 @@ use Rattle.localtables.proofs.search_attributes.Goals as goal
 pub loop-left-init : goal.loop-left-init
 loop-left-init c = λ tables end is. (tables, is, refl)
 
-pub returns-in-Found : goal.returns-in-Found
+pub returns-in-Some : goal.returns-in-Some
 unfolding joined
-returns-in-Found c =
+returns-in-Some c =
     let a = c.args in
     let l = c.loop-left in
     λ tables end is.
@@ -26,7 +26,7 @@ returns-in-Found c =
     let f = some_left (code_attribute_format (names_by a.file.now a.table.now) a.limit) a.file.now l.at l.left c.loop-left-test.true now.1 in
     let records = c.records_at-records.ensures.1 f.first f.next f.read in
     let found = c.search_records.ensures f.first f.next records.1 in
-    sym (now.2 ∙ ap (λ (ts : List (List Local)). first_local (joined ts) a.slot a.load) f.whole ∙ found_first a.slot a.load (joined f.rest) f.first (sym found ∙ c.in-Found.is))
+    sym (now.2 ∙ ap (λ (ts : List (List Local)). first_local (joined ts) a.slot a.load) f.whole ∙ found_first a.slot a.load (joined f.rest) f.first (sym found ∙ c.in-Some.is))
 
 pub loop-left-preserved : goal.loop-left-preserved
 unfolding joined
@@ -40,7 +40,7 @@ loop-left-preserved c =
     let found = c.search_records.ensures f.first f.next records.1 in (
       f.rest,
       subst (λ (n : ℕ). read_by (times (l.left - 1) (code_attribute_format (names_by a.file.now a.table.now) a.limit)) a.file.now n ≡ right f.rest end) (sym records.0) f.onward,
-      now.2 ∙ ap (λ (ts : List (List Local)). first_local (joined ts) a.slot a.load) f.whole ∙ missing_first a.slot a.load (joined f.rest) f.first (sym found ∙ c.in-Missing.is),
+      now.2 ∙ ap (λ (ts : List (List Local)). first_local (joined ts) a.slot a.load) f.whole ∙ missing_first a.slot a.load (joined f.rest) f.first (sym found ∙ c.in-None.is),
     )
 
 pub returns : goal.returns

@@ -10,16 +10,16 @@ returns-in_default c =
     let a = c.args in
     let none = pool_none a.file.now a.table.now 1 a.index (sym c.find_member.ensures ∙ c.in_default.is) in record { reads = sym (ap call_known none); few = tt {0} }
 
-pub returns-then-kind-eq1 : goal.returns-then-kind-eq1
-returns-then-kind-eq1 c =
+pub returns-then-member-eq1 : goal.returns-then-member-eq1
+returns-then-member-eq1 c =
     let a = c.args in
     let some =
-    pool_some a.file.now a.table.now 1 a.index _ _ _ _ (sym c.find_member.ensures ∙ c.in-Member.is)
-    c.if-kind-eq1.true in record { reads = c.signature_slots.ensures.reads ∙ ap signature_of c.find_name.ensures ∙ sym (ap call_known some); few = c.signature_slots.ensures.few }
+    pool_some a.file.now a.table.now 1 a.index _ (sym c.find_member.ensures ∙ c.in-Some.is)
+    c.if-member-eq1.true in record { reads = c.signature_slots.ensures.reads ∙ ap signature_of c.find_name.ensures ∙ sym (ap call_known some); few = c.signature_slots.ensures.few }
 
 pub returns : goal.returns
 returns c =
     let a = c.args in
     let other =
-    pool_other a.file.now a.table.now 1 a.index _ _ _ _ (sym c.find_member.ensures ∙ c.in-Member.is)
-    c.if-kind-eq1.false in record { reads = sym (ap call_known other); few = tt {0} }
+    pool_other a.file.now a.table.now 1 a.index _ (sym c.find_member.ensures ∙ c.in-Some.is)
+    c.if-member-eq1.false in record { reads = sym (ap call_known other); few = tt {0} }

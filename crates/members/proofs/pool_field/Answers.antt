@@ -12,19 +12,19 @@ returns-in_default c =
     let a = c.args in
     sym (ap slots_known (pool_none a.file.now a.table.now 0 a.index (sym c.find_member.ensures ∙ c.in_default.is)))
 
-pub returns-then-kind-eq0 : goal.returns-then-kind-eq0
-returns-then-kind-eq0 c =
+pub returns-then-member-eq0 : goal.returns-then-member-eq0
+returns-then-member-eq0 c =
     let a = c.args in
     ap SlotsOf (c.slots_of_field_type.ensures ∙ ap field_slots c.find_name.ensures)
     ∙ sym
     (ap slots_known
-    (pool_some a.file.now a.table.now 0 a.index _ _ _ _ (sym c.find_member.ensures ∙ c.in-Member.is)
-    c.if-kind-eq0.true))
+    (pool_some a.file.now a.table.now 0 a.index _ (sym c.find_member.ensures ∙ c.in-Some.is)
+    c.if-member-eq0.true))
 
 pub returns : goal.returns
 returns c =
     let a = c.args in
     sym
     (ap slots_known
-    (pool_other a.file.now a.table.now 0 a.index _ _ _ _ (sym c.find_member.ensures ∙ c.in-Member.is)
-    c.if-kind-eq0.false))
+    (pool_other a.file.now a.table.now 0 a.index _ (sym c.find_member.ensures ∙ c.in-Some.is)
+    c.if-member-eq0.false))
