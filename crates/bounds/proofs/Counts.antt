@@ -19,8 +19,9 @@ use Rattle.leader.specs.declared.Scanned.{Scanned}
 use Rattle.number.specs.Number.{greatest}
 use Rattle.casefile.specs.Parts.{Parts, parts_of}
 use Rattle.casefile.specs.Whole.{case_of}
-use Rattle.casefile.specs.declared.Case.{Case}
-use Rattle.casefile.specs.declared.Case.TheVariants as cases
+use Rattle.casefile.specs.declared.Places.{Places}
+use Rattle.casefile.specs.declared.CaseError.{CaseError}
+use Rattle.casefile.specs.declared.CaseError.TheVariants as cases
 use Rattle.cases.specs.LaidOut.{LaidOut}
 use Rattle.cases.proofs.Laying.{accepted_is_laid_out}
 use Rattle.effects.specs.Lookup.{Lookup, lookup_in}
@@ -180,9 +181,9 @@ pub counts_small : CountsSmall
 unfolding report_in
 counts_small manner bytes are room out_room = by_case (case_of bytes) refl
   where
-    by_case : (c : Case) → case_of bytes ≡ c → Small (answer_of manner bytes room out_room c)
-    by_case (cases.Parts places) e =
+    by_case : (c : Result Places CaseError) → case_of bytes ≡ c → Small (answer_of manner bytes room out_room c)
+    by_case (Ok places) e =
         small_answer (said_in manner (parts_of bytes places) room) out_room
         (said_small manner (parts_of bytes places) (accepted_is_laid_out bytes are places e).0 room)
-    by_case (cases.Wrong offset) e = tt
-    by_case cases.TooLong e = tt
+    by_case (Err (cases.Wrong offset)) e = tt
+    by_case (Err cases.TooLong) e = tt

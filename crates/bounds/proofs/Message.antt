@@ -1,5 +1,6 @@
 -- The message of a case is counted in 64 bits, so the length needed is its length.
 -- Assumes nothing.
+use Rattle.std.specs.Prelude.{Ok, Err}
 use Prim.Native.Nat.{ℕ, ◌+◌, ◌*◌, ◌≤◌}
 use native.Mathlib.Nat.{min-eq_left}
 use native.Mathlib.Omega.{arith}
@@ -12,7 +13,7 @@ use borrow.Author.Tests.{ltb-false}
 use Rattle.basics.specs.Choice.{pick}
 use Rattle.casefile.specs.Parts.{parts_of}
 use Rattle.casefile.specs.Whole.{places_in, longest, case_of}
-use Rattle.casefile.specs.declared.Case.TheVariants as cases
+use Rattle.casefile.specs.declared.CaseError.TheVariants as cases
 use Rattle.casefile.specs.declared.Places.{Places}
 use Rattle.text.specs.Writing.{most}
 use Rattle.action.specs.Action.{action_text}
@@ -39,12 +40,12 @@ message_short p members records wording action cause =
     )
 
 -- a case that is read is no longer than a case can be
-case_within : (bytes : List ℕ) (places : Places) → case_of bytes ≡ cases.Parts places → Within longest bytes
+case_within : (bytes : List ℕ) (places : Places) → case_of bytes ≡ Ok places → Within longest bytes
 unfolding case_of
 case_within bytes places read = by_test (ltb longest (length bytes)) refl read
   where
     by_test :
-        (t : Bool) → ltb longest (length bytes) ≡ t → pick t cases.TooLong (places_in bytes) ≡ cases.Parts places →
+        (t : Bool) → ltb longest (length bytes) ≡ t → pick t (Err cases.TooLong) (places_in bytes) ≡ Ok places →
         Within longest bytes
     by_test true e told = let z : ◌≡◌ {A = ℕ} 0 1 = cc in absurd (omega arith)
     by_test false e told = omega (arith, ltb-false longest (length bytes) e)

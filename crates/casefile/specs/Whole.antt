@@ -5,8 +5,9 @@ use Rattle.basics.specs.Choice.{pick}
 use Rattle.number.specs.Number.{greatest, number_at, then_number}
 use Rattle.items.specs.Text.{text_at, then_text}
 use Rattle.tables.specs.Layout.{members_then, records_then, ended, run_by, then_run}
-use Rattle.casefile.specs.declared.Case.{Case}
-use Rattle.casefile.specs.declared.Case.TheVariants.{Parts, Wrong, TooLong}
+use Rattle.casefile.specs.declared.Places.{Places}
+use Rattle.casefile.specs.declared.CaseError.{CaseError}
+use Rattle.casefile.specs.declared.CaseError.TheVariants.{Wrong, TooLong}
 use Rattle.casefile.specs.declared.TablePlaces.{TablePlaces}
 
 -- "member count, members, record count, local records"
@@ -33,15 +34,15 @@ then_tables (Err place) wrong following = wrong place
 
 -- "A case holds, in order: access flags, faulting index, code text, name signature text, .., and nothing after."; "excess bytes
 -- at the first one"
-unfoldable pub places_in : List ℕ → Case
+unfoldable pub places_in : List ℕ → Result Places CaseError
 places_in bytes =
-    then_number (number_at greatest bytes 0) (Wrong 0) (λ flags fault_at.
-    then_number (number_at greatest bytes fault_at) (Wrong fault_at) (λ fault code_at.
-    then_text (text_at bytes code_at) (Wrong code_at) (λ code code_length.
-    then_text (text_at bytes (code + code_length)) (Wrong (code + code_length)) (λ signature signature_length.
-    then_tables (tables_at bytes (signature + signature_length)) (λ wrong. Wrong wrong) (λ places.
-    pick (ltb places.end (length bytes)) (Wrong places.end)
-    (Parts
+    then_number (number_at greatest bytes 0) (Err (Wrong 0)) (λ flags fault_at.
+    then_number (number_at greatest bytes fault_at) (Err (Wrong fault_at)) (λ fault code_at.
+    then_text (text_at bytes code_at) (Err (Wrong code_at)) (λ code code_length.
+    then_text (text_at bytes (code + code_length)) (Err (Wrong (code + code_length))) (λ signature signature_length.
+    then_tables (tables_at bytes (signature + signature_length)) (λ wrong. Err (Wrong wrong)) (λ places.
+    pick (ltb places.end (length bytes)) (Err (Wrong places.end))
+    (Ok
     (record {
       flags = flags;
       fault = fault;
@@ -61,14 +62,14 @@ places_in bytes =
 abbrev pub longest : ℕ
 longest = 1048576
 
-unfoldable pub case_of : List ℕ → Case
-case_of bytes = pick (ltb longest (length bytes)) TooLong (places_in bytes)
+unfoldable pub case_of : List ℕ → Result Places CaseError
+case_of bytes = pick (ltb longest (length bytes)) (Err TooLong) (places_in bytes)
 
 -- document 01's numbers: "2: the case breaks its layout", with the offset of the first wrong item; "5: the case exceeds
 -- 1,048,576 bytes", with nothing. A case that is read has no number yet; it gets 0 here, with its numbers.
-unfoldable pub numbered : Case → List ℕ
-numbered (Parts p) =
+unfoldable pub numbered : Result Places CaseError → List ℕ
+numbered (Ok p) =
     0 ∷ p.flags ∷ p.fault ∷ p.code ∷ p.code_length ∷ p.signature ∷ p.signature_length
     ∷ p.members ∷ p.members_length ∷ p.member_count ∷ p.records ∷ p.records_length ∷ p.record_count ∷ []
-numbered (Wrong offset) = 2 ∷ offset ∷ []
-numbered TooLong = 5 ∷ []
+numbered (Err (Wrong offset)) = 2 ∷ offset ∷ []
+numbered (Err TooLong) = 5 ∷ []

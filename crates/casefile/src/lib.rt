@@ -40,10 +40,9 @@ pub struct Places {
     pub record_count: usize,
 }
 
-// What reading a case answers.
+// Why a case is not read.
 #[derive(Clone, Copy)]
-pub enum Case {
-    Parts(Places),
+pub enum CaseError {
     // The place of the first wrong item.
     Wrong(usize),
     // The case is longer than 1,048,576 bytes.
@@ -72,37 +71,25 @@ fn read_tables(bytes: &[u8], at: usize) -> Result<TablePlaces, usize>
 }
 
 // Where the parts of a case lie, or the place of its first wrong item, or that it is too long.
-pub fn read_case(bytes: &[u8]) -> Case
+#[tactic(auto, unfolding(crate::specs::Whole::case_of, crate::specs::Whole::places_in))]
+pub fn read_case(bytes: &[u8]) -> Result<Places, CaseError>
     ensures { result ≡ case_of bytes.now }
 {
     if LONGEST < bytes.len() {
-        return Case::TooLong;
+        return Err(CaseError::TooLong);
     }
-    let Some((flags, fault_at)) = case_number(bytes, 0) else {
-        return Case::Wrong(0);
-    };
-    let Some((fault, code_at)) = case_number(bytes, fault_at) else {
-        return Case::Wrong(fault_at);
-    };
-    let Some((code, code_length)) = read_text(bytes, code_at) else {
-        return Case::Wrong(code_at);
-    };
+    let (flags, fault_at) = case_number(bytes, 0).ok_or(CaseError::Wrong(0))?;
+    let (fault, code_at) = case_number(bytes, fault_at).ok_or(CaseError::Wrong(fault_at))?;
+    let (code, code_length) = read_text(bytes, code_at).ok_or(CaseError::Wrong(code_at))?;
     let signature_at = code + code_length;
-    let Some((signature, signature_length)) = read_text(bytes, signature_at) else {
-        return Case::Wrong(signature_at);
-    };
-    let runs = read_tables(bytes, signature + signature_length);
-    let tables = match runs {
-        Ok(tables) => tables,
-        Err(wrong) => {
-            return Case::Wrong(wrong);
-        }
-    };
-    let records_end = tables.end;
-    if records_end < bytes.len() {
-        return Case::Wrong(records_end);
+    let (signature, signature_length) = read_text(bytes, signature_at).ok_or(CaseError::Wrong(
+        signature_at,
+    ))?;
+    let tables = read_tables(bytes, signature + signature_length).map_err(CaseError::Wrong)?;
+    if tables.end < bytes.len() {
+        return Err(CaseError::Wrong(tables.end));
     }
-    Case::Parts(Places {
+    Ok(Places {
         flags,
         fault,
         code,

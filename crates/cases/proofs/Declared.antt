@@ -22,9 +22,10 @@ use Rattle.tables.specs.declared.RecordPlace.{RecordPlace}
 use Rattle.tables.specs.declared.MemberPlace.{MemberPlace}
 use Rattle.tables.proofs.Runs.{member-then, record-then}
 use Rattle.casefile.specs.Whole.{tables_at, then_tables, places_in, longest, case_of}
-use Rattle.casefile.specs.declared.Case.{Case}
+use Rattle.casefile.specs.declared.Places.{Places}
+use Rattle.casefile.specs.declared.CaseError.{CaseError}
 use Rattle.casefile.specs.declared.TablePlaces.{TablePlaces}
-use Rattle.casefile.specs.declared.Case.TheVariants as answer
+use Rattle.casefile.specs.declared.CaseError.TheVariants as answer
 use Rattle.cases.specs.FirstWrong.{Reached, start, after_number, after_text, goes_on, ends_here, NothingRight, FirstWrong, FirstWrongDeclared}
 use Rattle.cases.proofs.Items.{number_on, sized_on, may_end_on, may_end_here}
 use Rattle.cases.proofs.Reading.{number_reads, number_stands, text_reads, text_stands}
@@ -195,10 +196,10 @@ abbrev pub on_run : List ℕ → Result ℕ ℕ → Verdict
 on_run bytes (Ok end) = pick (ltb end (length bytes)) (wrong_at end) all_right
 on_run bytes (Err offset) = wrong_at offset
 
-abbrev pub on_case : Case → Verdict
-on_case (answer.Parts places) = all_right
-on_case (answer.Wrong offset) = wrong_at offset
-on_case answer.TooLong = not_read
+abbrev pub on_case : Result Places CaseError → Verdict
+on_case (Ok places) = all_right
+on_case (Err (answer.Wrong offset)) = wrong_at offset
+on_case (Err answer.TooLong) = not_read
 
 -- the two runs with their counts, and what follows them
 module _ (following : Layout) (bytes : List ℕ) (at : ℕ) where
@@ -250,8 +251,8 @@ module _ (bytes : List ℕ) where
   case_run = by_flags (number_at greatest bytes 0) refl
     where
       by_end :
-          (t : Bool) (end : ℕ) (right : Case) → on_case right ≡ all_right →
-          on_case (pick t (answer.Wrong end) right) ≡ pick t (wrong_at end) all_right
+          (t : Bool) (end : ℕ) (right : Result Places CaseError) → on_case right ≡ all_right →
+          on_case (pick t (Err (answer.Wrong end)) right) ≡ pick t (wrong_at end) all_right
       by_end true end right e = refl
       by_end false end right e = e
 
@@ -294,12 +295,12 @@ module _ (bytes : List ℕ) where
 -- ---- the statement
 
 module _ (bytes : List ℕ) where
-  pub fits_of : (c : Case) → (c ≡ answer.TooLong → ⊥) → case_of bytes ≡ c → (length bytes ≤ longest) × (places_in bytes ≡ c)
+  pub fits_of : (c : Result Places CaseError) → (c ≡ Err answer.TooLong → ⊥) → case_of bytes ≡ c → (length bytes ≤ longest) × (places_in bytes ≡ c)
   unfolding case_of
   fits_of c not e = by_test (ltb longest (length bytes)) refl e
     where
       by_test :
-          (t : Bool) → ltb longest (length bytes) ≡ t → pick t answer.TooLong (places_in bytes) ≡ c →
+          (t : Bool) → ltb longest (length bytes) ≡ t → pick t (Err answer.TooLong) (places_in bytes) ≡ c →
           (length bytes ≤ longest) × (places_in bytes ≡ c)
       by_test true f q = absurd (not (sym q))
       by_test false f q = (ltb-false longest (length bytes) f, q)
@@ -309,10 +310,10 @@ module _ (bytes : List ℕ) where
   of_short short = rw (le-ltb longest (length bytes) short)
 
   -- a verdict is the case's
-  wrong_case : (c : Case) (offset : ℕ) → on_case c ≡ wrong_at offset → c ≡ answer.Wrong offset
-  wrong_case (answer.Parts places) offset e = let y : ◌≡◌ {A = ℕ} 0 1 = cc in absurd (omega arith)
-  wrong_case (answer.Wrong place) offset e = let same : place ≡ offset = cc in ap answer.Wrong same
-  wrong_case answer.TooLong offset e = let y : ◌≡◌ {A = ℕ} 0 1 = cc in absurd (omega arith)
+  wrong_case : (c : Result Places CaseError) (offset : ℕ) → on_case c ≡ wrong_at offset → c ≡ Err (answer.Wrong offset)
+  wrong_case (Ok places) offset e = let y : ◌≡◌ {A = ℕ} 0 1 = cc in absurd (omega arith)
+  wrong_case (Err (answer.Wrong place)) offset e = let same : place ≡ offset = cc in ap (λ (place : ℕ). Err (answer.Wrong place)) same
+  wrong_case (Err answer.TooLong) offset e = let y : ◌≡◌ {A = ℕ} 0 1 = cc in absurd (omega arith)
 
   first_wrong_verdict :
       (are : AreBytes bytes) → (r : Result ℕ ℕ) → run_by case_layout bytes 0 ≡ r → Declares bytes are r → (offset : ℕ) → on_run bytes r ≡ wrong_at offset →
@@ -330,9 +331,9 @@ module _ (bytes : List ℕ) where
       let same : place ≡ offset = cc in
       subst (λ (o : ℕ). FirstWrong bytes o) same first
 
-  means : AreBytes bytes → (offset : ℕ) → case_of bytes ≡ answer.Wrong offset → FirstWrong bytes offset
+  means : AreBytes bytes → (offset : ℕ) → case_of bytes ≡ Err (answer.Wrong offset) → FirstWrong bytes offset
   means are offset e =
-      let case = fits_of (answer.Wrong offset) (λ q. let y : ◌≡◌ {A = ℕ} 0 1 = cc in omega arith) e in
+      let case = fits_of (Err (answer.Wrong offset)) (λ q. let y : ◌≡◌ {A = ℕ} 0 1 = cc in omega arith) e in
       first_wrong_verdict are (run_by case_layout bytes 0) refl (declares bytes are case_layout 0 start) offset
       (sym (case_run bytes) ∙ ap on_case case.1)
 
@@ -370,7 +371,7 @@ module _ (bytes : List ℕ) where
   verdict are offset first =
       case_run bytes ∙ ap (on_run bytes) (along bytes are first.reached) ∙ stops are first.due offset first.wrong
 
-  only : AreBytes bytes → (offset : ℕ) → length bytes ≤ longest → FirstWrong bytes offset → case_of bytes ≡ answer.Wrong offset
+  only : AreBytes bytes → (offset : ℕ) → length bytes ≤ longest → FirstWrong bytes offset → case_of bytes ≡ Err (answer.Wrong offset)
   only are offset short first = of_short short ∙ wrong_case (places_in bytes) offset (verdict are offset first)
 
   one : AreBytes bytes → (offset another : ℕ) → FirstWrong bytes offset → FirstWrong bytes another → offset ≡ another
@@ -379,7 +380,7 @@ module _ (bytes : List ℕ) where
       let f = verdict are another second in
       cc
 
-  too-long : longest < length bytes → case_of bytes ≡ answer.TooLong
+  too-long : longest < length bytes → case_of bytes ≡ Err answer.TooLong
   unfolding case_of
   too-long long = rw (lt-ltb longest (length bytes) long)
 
@@ -392,12 +393,12 @@ module _ (bytes : List ℕ) where
       by_test false f = let y : ◌≡◌ {A = ℕ} 0 1 = cc in omega arith
   is_read (Err offset) e = let y : ◌≡◌ {A = ℕ} 0 1 = cc in omega arith
 
-  not-too-long : case_of bytes ≡ answer.TooLong → longest < length bytes
+  not-too-long : case_of bytes ≡ Err answer.TooLong → longest < length bytes
   unfolding case_of
   not-too-long e = by_test (ltb longest (length bytes)) refl e
     where
       by_test :
-          (t : Bool) → ltb longest (length bytes) ≡ t → pick t answer.TooLong (places_in bytes) ≡ answer.TooLong →
+          (t : Bool) → ltb longest (length bytes) ≡ t → pick t (Err answer.TooLong) (places_in bytes) ≡ Err answer.TooLong →
           longest < length bytes
       by_test true f q = ltb-true longest (length bytes) f
       by_test false f q = absurd (is_read (run_by case_layout bytes 0) (sym (case_run bytes) ∙ ap on_case q))

@@ -17,7 +17,6 @@ use Rattle.items.specs.Text.{text_bytes}
 use Rattle.tables.specs.Layout.{Layout, number, text, ended, any, members_then, records_then, tables_then, case_layout, run_by}
 use Rattle.casefile.specs.Parts.{Parts, case_bytes, parts_of}
 use Rattle.casefile.specs.Whole.{tables_at, places_in, longest, case_of}
-use Rattle.casefile.specs.declared.Case.TheVariants as answer
 use Rattle.casefile.specs.declared.Places.{Places}
 use Rattle.casefile.specs.declared.TablePlaces.{TablePlaces}
 use Rattle.cases.specs.LaidOut.{members_bytes, MemberRun, records_bytes, RecordRun, LaidOut, ReadsBack, AcceptedIsLaidOut}
@@ -188,7 +187,7 @@ module _ (p : Parts) (right : LaidOut p) where
         record_count = laid_tables.record_count;
       }
 
-  places_read : places_in laid_bytes ≡ answer.Parts laid_places
+  places_read : places_in laid_bytes ≡ Ok laid_places
   unfolding places_in
   places_read =
       rw (
@@ -432,17 +431,17 @@ module _ (bytes : List ℕ) (are : AreBytes bytes) where
 
 -- the places answered are those of these parts
 settled :
-    (bytes : List ℕ) (places : Places) (p : Parts) → LaidOut p → bytes ≡ case_bytes p → case_of bytes ≡ answer.Parts places →
+    (bytes : List ℕ) (places : Places) (p : Parts) → LaidOut p → bytes ≡ case_bytes p → case_of bytes ≡ Ok places →
     LaidOut (parts_of bytes places) × (bytes ≡ case_bytes (parts_of bytes places))
 settled bytes places p right is e =
     let back = reads_back p right in
-    let again : answer.Parts places ≡ answer.Parts back.0 = sym e ∙ ap case_of is ∙ back.1 in
+    let again : Ok places ≡ Ok back.0 = sym e ∙ ap case_of is ∙ back.1 in
     let same : places ≡ back.0 = cc in
     let parts : parts_of bytes places ≡ p = ap₂ parts_of is same ∙ back.2 in
     (subst (λ (q : Parts). LaidOut q) (sym parts) right, is ∙ ap case_bytes (sym parts))
 
 pub accepted_is_laid_out : AcceptedIsLaidOut
 accepted_is_laid_out bytes are places e =
-    let case = fits_of bytes (answer.Parts places) (λ q. let y : ◌≡◌ {A = ℕ} 0 1 = cc in omega arith) e in
+    let case = fits_of bytes (Ok places) (λ q. let y : ◌≡◌ {A = ℕ} 0 1 = cc in omega arith) e in
     let from = laid bytes are (run_by case_layout bytes 0) refl (sym (case_run bytes) ∙ ap on_case case.1) case.0 in
     settled bytes places from.parts from.right from.is e

@@ -2,13 +2,13 @@
 -- item"; "A wrong item's offset is that of its first byte; a text starts at its length number; excess bytes at the first
 -- one"). An item is each number and each text. The statements at the end are proved in proofs/ of this crate.
 -- Assumes nothing.
-use Rattle.std.specs.Prelude.{ℕ, ◌+◌, ◌≤◌, ◌<◌, ◌≡◌, Bool, List, T, length}
+use Rattle.std.specs.Prelude.{ℕ, ◌+◌, ◌≤◌, ◌<◌, ◌≡◌, Bool, List, T, length, Err}
 use Rattle.basics.specs.Bytes.{AreBytes}
 use Rattle.number.specs.Number.{greatest, number_bytes}
 use Rattle.items.specs.Text.{text_bytes}
 use Rattle.tables.specs.Layout.{Layout, number, sized, may_end, ended, case_layout}
 use Rattle.casefile.specs.Whole.{longest, case_of}
-use Rattle.casefile.specs.declared.Case.TheVariants.{Wrong, TooLong}
+use Rattle.casefile.specs.declared.CaseError.TheVariants.{Wrong, TooLong}
 use Rattle.cases.specs.Standing.{Stands}
 
 -- the bytes before a place are whole right items of the layout, in order, and this is what the layout has from there on
@@ -44,12 +44,12 @@ pub record FirstWrong (bytes : List ℕ) (offset : ℕ) : Type 0 where
 -- A case that is not too long is answered 2 with an offset exactly where its first wrong item has this offset; so at most
 -- one offset is that of the first wrong item. It is answered 5 exactly where it exceeds 1,048,576 bytes.
 pub record FirstWrongDeclared : Type 0 where
-  pub means : (bytes : List ℕ) → AreBytes bytes → (offset : ℕ) → case_of bytes ≡ Wrong offset → FirstWrong bytes offset
+  pub means : (bytes : List ℕ) → AreBytes bytes → (offset : ℕ) → case_of bytes ≡ Err (Wrong offset) → FirstWrong bytes offset
   pub only :
       (bytes : List ℕ) → AreBytes bytes → (offset : ℕ) → length bytes ≤ longest → FirstWrong bytes offset →
-      case_of bytes ≡ Wrong offset
+      case_of bytes ≡ Err (Wrong offset)
   pub one :
       (bytes : List ℕ) → AreBytes bytes → (offset another : ℕ) → FirstWrong bytes offset → FirstWrong bytes another →
       offset ≡ another
-  pub too_long : (bytes : List ℕ) → longest < length bytes → case_of bytes ≡ TooLong
-  pub not_too_long : (bytes : List ℕ) → case_of bytes ≡ TooLong → longest < length bytes
+  pub too_long : (bytes : List ℕ) → longest < length bytes → case_of bytes ≡ Err TooLong
+  pub not_too_long : (bytes : List ℕ) → case_of bytes ≡ Err TooLong → longest < length bytes

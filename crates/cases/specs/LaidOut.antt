@@ -1,13 +1,12 @@
 -- The bytes of a member, of a local record and of the runs of them, and which parts are the parts of a case (document 01,
 -- "The case"). The statements at the end are proved in proofs/ of this crate.
 -- Assumes nothing.
-use Rattle.std.specs.Prelude.{ℕ, ◌≤◌, ◌<◌, ◌≡◌, List, [], ◌∷◌, ◌++◌, length}
+use Rattle.std.specs.Prelude.{ℕ, ◌≤◌, ◌<◌, ◌≡◌, List, [], ◌∷◌, ◌++◌, length, Ok}
 use Rattle.basics.specs.Bytes.{AreBytes}
 use Rattle.number.specs.Number.{greatest, number_bytes}
 use Rattle.items.specs.Text.{text_bytes}
 use Rattle.casefile.specs.Parts.{Parts, case_bytes, parts_of}
 use Rattle.casefile.specs.Whole.{longest, case_of}
-use Rattle.casefile.specs.declared.Case.TheVariants as answer
 use Rattle.casefile.specs.declared.Places.{Places}
 
 -- ---- members
@@ -107,10 +106,10 @@ pub record LaidOut (p : Parts) : Type 0 where
 abbrev pub ReadsBack : Type 0
 ReadsBack =
     (p : Parts) → LaidOut p →
-    (places : Places) × (case_of (case_bytes p) ≡ answer.Parts places) × (parts_of (case_bytes p) places ≡ p)
+    (places : Places) × (case_of (case_bytes p) ≡ Ok places) × (parts_of (case_bytes p) places ≡ p)
 
 -- whatever is accepted is what the parts read lay out to, and these satisfy the layout
 abbrev pub AcceptedIsLaidOut : Type 0
 AcceptedIsLaidOut =
-    (bytes : List ℕ) → AreBytes bytes → (places : Places) → case_of bytes ≡ answer.Parts places →
+    (bytes : List ℕ) → AreBytes bytes → (places : Places) → case_of bytes ≡ Ok places →
     LaidOut (parts_of bytes places) × (bytes ≡ case_bytes (parts_of bytes places))

@@ -1,5 +1,6 @@
 -- What the answer and the output of a whole case say of its parts, and what its parts make of both, in any manner.
 -- Assumes nothing.
+use Rattle.std.specs.Prelude.{Result, Ok, Err}
 use Prim.Native.Nat.{ℕ, ◌≤◌}
 use native.Mathlib.Omega.{arith}
 use mathlib.Core.Path.{◌≡◌, refl, ◌∙◌, sym, ap}
@@ -12,8 +13,8 @@ use Rattle.basics.specs.Choice.{pick}
 use Rattle.text.specs.Writing.{over}
 use Rattle.casefile.specs.Parts.{Parts, parts_of}
 use Rattle.casefile.specs.Whole.{case_of}
-use Rattle.casefile.specs.declared.Case.{Case}
-use Rattle.casefile.specs.declared.Case.TheVariants as cases
+use Rattle.casefile.specs.declared.CaseError.{CaseError}
+use Rattle.casefile.specs.declared.CaseError.TheVariants as cases
 use Rattle.casefile.specs.declared.Places.{Places}
 use Rattle.answer.specs.Answer.{Said, silent, roomless, said, needed, answer_by, output_by}
 use Rattle.answer.specs.declared.Report.TheVariants.{Message, NoOutput}
@@ -28,7 +29,7 @@ pub record Delivers (manner : Manner) (bytes : List ℕ) (places : Places) (room
   pub says : said_in manner (parts_of bytes places) room ≡ said message kind scan block
   pub written : reported_by manner bytes room out ≡ over message out
 
-module _ (manner : Manner) (bytes : List ℕ) (places : Places) (reads : case_of bytes ≡ cases.Parts places) (room : ℕ)
+module _ (manner : Manner) (bytes : List ℕ) (places : Places) (reads : case_of bytes ≡ Ok places) (room : ℕ)
     (out : List ℕ) where
   abbrev p : Parts
   p = parts_of bytes places
@@ -92,13 +93,13 @@ module _ (manner : Manner) (bytes : List ℕ) (places : Places) (reads : case_of
 -- a message is that of parts
 pub has_parts :
     (manner : Manner) (bytes : List ℕ) (room out_room size kind scan block : ℕ) →
-    report_in manner bytes room out_room ≡ Message size kind scan block → (places : Places) × (case_of bytes ≡ cases.Parts places)
+    report_in manner bytes room out_room ≡ Message size kind scan block → (places : Places) × (case_of bytes ≡ Ok places)
 unfolding report_in
 has_parts manner bytes room out_room size kind scan block answer = by_case (case_of bytes) refl answer
   where
     by_case :
-        (c : Case) → case_of bytes ≡ c → answer_of manner bytes room out_room c ≡ Message size kind scan block →
-        (places : Places) × (case_of bytes ≡ cases.Parts places)
-    by_case (cases.Parts places) e q = (places, e)
-    by_case (cases.Wrong offset) e q = let z : ◌≡◌ {A = ℕ} 0 1 = cc in absurd (omega arith)
-    by_case cases.TooLong e q = let z : ◌≡◌ {A = ℕ} 0 1 = cc in absurd (omega arith)
+        (c : Result Places CaseError) → case_of bytes ≡ c → answer_of manner bytes room out_room c ≡ Message size kind scan block →
+        (places : Places) × (case_of bytes ≡ Ok places)
+    by_case (Ok places) e q = (places, e)
+    by_case (Err (cases.Wrong offset)) e q = let z : ◌≡◌ {A = ℕ} 0 1 = cc in absurd (omega arith)
+    by_case (Err cases.TooLong) e q = let z : ◌≡◌ {A = ℕ} 0 1 = cc in absurd (omega arith)

@@ -1,5 +1,6 @@
 -- A name is evidence. Rests on condition 3 and on when the kind is 2.
 -- Assumes nothing.
+use Rattle.std.specs.Prelude.{Ok}
 use Prim.Native.Nat.{ℕ, zero, suc, ◌+◌, ◌-◌, ◌<◌}
 use native.Mathlib.Omega.{arith}
 use mathlib.Core.Path.{◌≡◌, refl, ◌∙◌, sym, ap}
@@ -14,7 +15,6 @@ use Rattle.basics.specs.Choice.{pick, both}
 use Rattle.jvms.specs.Machine.{Pool}
 use Rattle.casefile.specs.Parts.{Parts, parts_of}
 use Rattle.casefile.specs.Whole.{case_of}
-use Rattle.casefile.specs.declared.Case.TheVariants as cases
 use Rattle.casefile.specs.declared.Places.{Places}
 use Rattle.cases.proofs.Reading.{bytes_behind}
 use Rattle.effects.specs.Depth.{Depth, nowhere, at, rule_of, depth_by, depth_of}
@@ -160,7 +160,7 @@ code_bytes bytes places are =
     bytes_before places.code_length (drop places.code bytes) (bytes_behind bytes places.code are)
 
 module _ (manner : Manner) (bytes : List ℕ) (places : Places) (pool : Pool) (room : ℕ) (out : List ℕ) (size scan block : ℕ)
-    (are : AreBytes bytes) (reads : case_of bytes ≡ cases.Parts places)
+    (are : AreBytes bytes) (reads : case_of bytes ≡ Ok places)
     (described : WellDescribed (parts_of bytes places) pool) where
   abbrev p : Parts
   p = parts_of bytes places

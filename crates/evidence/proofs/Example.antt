@@ -1,5 +1,6 @@
 -- The smallest case that has a cause meets the premises, so its name is evidence.
 -- Assumes nothing.
+use Rattle.std.specs.Prelude.{Ok}
 use Prim.Native.Nat.{ℕ, zero, suc, ◌≤◌}
 use native.Mathlib.Omega.{arith}
 use mathlib.Core.Path.{◌≡◌, refl}
@@ -10,7 +11,6 @@ use Rattle.items.specs.Text.{text_at}
 use Rattle.tables.specs.Layout.{members_then, records_then, run_by}
 use Rattle.casefile.specs.Parts.{parts_of}
 use Rattle.casefile.specs.Whole.{tables_at, places_in, case_of}
-use Rattle.casefile.specs.declared.Case.TheVariants as cases
 use Rattle.effects.specs.Lookup.{lookup_in}
 use Rattle.effects.specs.declared.Model.TheVariants.{Document}
 use Rattle.report.specs.Report.{manner_of}
@@ -20,7 +20,7 @@ use Rattle.evidence.specs.Example.{places, NamedByEvidence}
 use Rattle.evidence.proofs.Constant.{small_cases}
 use Rattle.evidence.proofs.Evidence.{report_is_evidence}
 
-lies : case_of reading ≡ cases.Parts places
+lies : case_of reading ≡ Ok places
 unfolding case_of places_in tables_at text_at number_at number_from run_by members_then records_then
 lies = refl
 

@@ -5,7 +5,7 @@
 -- proofs/Evidence.antt has its proof.
 -- As condition 3, it does not cover handler entries: an exception handler that begins inside the block enters it too.
 -- Assumes nothing.
-use Rattle.std.specs.Prelude.{ℕ, ◌≤◌, ◌<◌, ◌≡◌, List, [], ◌∷◌, ◌++◌, length}
+use Rattle.std.specs.Prelude.{ℕ, ◌≤◌, ◌<◌, ◌≡◌, List, [], ◌∷◌, ◌++◌, length, Ok}
 use Rattle.basics.specs.Ascii.{ascii}
 use Rattle.basics.specs.Bytes.{AreBytes}
 use Rattle.basics.specs.Member.{◌∈◌}
@@ -16,7 +16,6 @@ use Rattle.leader.specs.Scan.{led_to}
 use Rattle.leaders.specs.Leader.{Reached}
 use Rattle.casefile.specs.Parts.{Parts, parts_of}
 use Rattle.casefile.specs.Whole.{case_of}
-use Rattle.casefile.specs.declared.Case.TheVariants as cases
 use Rattle.casefile.specs.declared.Places.{Places}
 use Rattle.text.specs.Writing.{over}
 use Rattle.effects.specs.Lookup.{lookup_in}
@@ -97,6 +96,6 @@ pub record Reported (manner : Manner) (bytes : List ℕ) (places : Places) (pool
 abbrev pub ReportIsEvidence : Type 1
 ReportIsEvidence =
     (manner : Manner) (bytes : List ℕ) (places : Places) (pool : Pool) (room : ℕ) (out : List ℕ) (size scan block : ℕ) →
-    AreBytes bytes → case_of bytes ≡ cases.Parts places → WellDescribed (parts_of bytes places) pool →
+    AreBytes bytes → case_of bytes ≡ Ok places → WellDescribed (parts_of bytes places) pool →
     report_in manner bytes room (length out) ≡ Message size 2 scan block →
     Reported manner bytes places pool room out size scan block

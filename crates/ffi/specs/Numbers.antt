@@ -1,12 +1,13 @@
 -- The C interface over a case: what its functions answer, as structs of numbers (crates/structs), and what they leave in lent slices.
 -- Assumes nothing.
-use Rattle.std.specs.Prelude.{ℕ, List, replicate}
+use Rattle.std.specs.Prelude.{ℕ, List, replicate, Result, Ok, Err}
 use Rattle.effects.specs.declared.Model.{Model}
 use Rattle.effects.specs.declared.Model.TheVariants.{Document}
 use Rattle.walk.specs.Room.{Roomed, block_walk_in, answer_of, cells_of}
 use Rattle.casefile.specs.Parts.{Parts, parts_of}
-use Rattle.casefile.specs.declared.Case.{Case}
-use Rattle.casefile.specs.declared.Case.TheVariants as cases
+use Rattle.casefile.specs.declared.Places.{Places}
+use Rattle.casefile.specs.declared.CaseError.{CaseError}
+use Rattle.casefile.specs.declared.CaseError.TheVariants as cases
 use Rattle.descriptor.specs.declared.Params.{Params}
 use Rattle.descriptor.specs.declared.Params.TheVariants.{Read, Unreadable as NoParams}
 use Rattle.locals.specs.Name.{is_instance, local_name}
@@ -24,23 +25,21 @@ use Rattle.structs.specs.declared.KorsepalWalk.{KorsepalWalk}
 abbrev pub walk_in : Model → Parts → ℕ → ℕ → ℕ → Roomed ℕ
 walk_in model p leader fault room = block_walk_in model p.code p.members p.member_count leader fault room
 
-abbrev pub case_walk_in : Model → List ℕ → ℕ → ℕ → ℕ → Case → KorsepalWalk
-case_walk_in model bytes leader fault room (cases.Parts places) =
+abbrev pub case_walk_in : Model → List ℕ → ℕ → ℕ → ℕ → Result Places CaseError → KorsepalWalk
+case_walk_in model bytes leader fault room (Ok places) =
     walk_numbers (answer_of (walk_in model (parts_of bytes places) leader fault room))
-case_walk_in model bytes leader fault room (cases.Wrong offset) = unread (cases.Wrong offset)
-case_walk_in model bytes leader fault room cases.TooLong = unread cases.TooLong
+case_walk_in model bytes leader fault room (Err error) = unread (Err error)
 
 -- In document 01's model.
-abbrev pub case_walk : List ℕ → ℕ → ℕ → ℕ → Case → KorsepalWalk
+abbrev pub case_walk : List ℕ → ℕ → ℕ → ℕ → Result Places CaseError → KorsepalWalk
 case_walk = case_walk_in Document
 
 -- "the stack as document 01 says of the walk alone, all zero for 2 and 5"
-abbrev pub case_cells_in : Model → List ℕ → ℕ → ℕ → ℕ → Case → List ℕ
-case_cells_in model bytes leader fault room (cases.Parts places) = cells_of room (walk_in model (parts_of bytes places) leader fault room)
-case_cells_in model bytes leader fault room (cases.Wrong offset) = replicate room 0
-case_cells_in model bytes leader fault room cases.TooLong = replicate room 0
+abbrev pub case_cells_in : Model → List ℕ → ℕ → ℕ → ℕ → Result Places CaseError → List ℕ
+case_cells_in model bytes leader fault room (Ok places) = cells_of room (walk_in model (parts_of bytes places) leader fault room)
+case_cells_in model bytes leader fault room (Err error) = replicate room 0
 
-abbrev pub case_cells : List ℕ → ℕ → ℕ → ℕ → Case → List ℕ
+abbrev pub case_cells : List ℕ → ℕ → ℕ → ℕ → Result Places CaseError → List ℕ
 case_cells = case_cells_in Document
 
 -- ---- texts that are written where they fit, and else measured
@@ -53,15 +52,14 @@ spoken text = said text 0 0 0
 abbrev pub name_in : Parts → ℕ → ℕ → List ℕ
 name_in p local load = local_name p.records p.record_count p.signature (is_instance p.flags) local load
 
-abbrev pub case_name : List ℕ → ℕ → ℕ → ℕ → Case → Report
-case_name bytes local load room (cases.Parts places) = answer_by (spoken (name_in (parts_of bytes places) local load)) room
-case_name bytes local load room (cases.Wrong offset) = Broken offset
-case_name bytes local load room cases.TooLong = TooLong
+abbrev pub case_name : List ℕ → ℕ → ℕ → ℕ → Result Places CaseError → Report
+case_name bytes local load room (Ok places) = answer_by (spoken (name_in (parts_of bytes places) local load)) room
+case_name bytes local load room (Err (cases.Wrong offset)) = Broken offset
+case_name bytes local load room (Err cases.TooLong) = TooLong
 
-abbrev pub case_named : List ℕ → ℕ → ℕ → List ℕ → Case → List ℕ
-case_named bytes local load out (cases.Parts places) = output_by (spoken (name_in (parts_of bytes places) local load)) out
-case_named bytes local load out (cases.Wrong offset) = out
-case_named bytes local load out cases.TooLong = out
+abbrev pub case_named : List ℕ → ℕ → ℕ → List ℕ → Result Places CaseError → List ℕ
+case_named bytes local load out (Ok places) = output_by (spoken (name_in (parts_of bytes places) local load)) out
+case_named bytes local load out (Err error) = out
 
 -- 1 unreadable
 abbrev pub parameter_numbers : List ℕ → ℕ → Params → KorsepalParameters

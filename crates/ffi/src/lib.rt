@@ -17,7 +17,7 @@ ghost use Rattle.report.specs.Report.{model_by, default_manner, full_manner, rep
 ghost use Rattle.structs.specs.Structs.{report_numbers, length_numbers, leader_numbers, slot_numbers, name_numbers, strict_numbers};
 ghost use Rattle.ffi.specs.Numbers.{case_walk, case_cells, case_walk_in, case_cells_in, spoken, case_name, case_named, parameter_numbers, parameters_in};
 
-use casefile::Case;
+use casefile::CaseError;
 use cell::clear;
 use descriptor::Params;
 use effects::Model;
@@ -115,12 +115,13 @@ pub extern "C" fn korsepal_field_slots(descriptor: &[u8]) -> KorsepalSlots
 }
 
 // Walks in a model from a leader to a fault over a lent stack, in the code of a case and with its members.
+#[tactic(auto, unfolding(casefile::specs::Whole::numbered, casefile::specs::Parts::parts_of))]
 fn walk_case(model: Model, case: &[u8], leader: u64, fault: u64, stack: &mut [u64]) -> KorsepalWalk
     ensures answers { result ≡ case_walk_in model case.now leader fault (length stack.old) (case_of case.now) }
     ensures leaves { stack.new ≡ case_cells_in model case.now leader fault (length stack.old) (case_of case.now) }
 {
     match casefile::read_case(case) {
-        Case::TooLong => {
+        Err(CaseError::TooLong) => {
             clear(stack);
             KorsepalWalk {
                 outcome: 5,
@@ -129,7 +130,7 @@ fn walk_case(model: Model, case: &[u8], leader: u64, fault: u64, stack: &mut [u6
                 index: 0,
             }
         }
-        Case::Wrong(at) => {
+        Err(CaseError::Wrong(at)) => {
             clear(stack);
             KorsepalWalk {
                 outcome: 2,
@@ -138,7 +139,7 @@ fn walk_case(model: Model, case: &[u8], leader: u64, fault: u64, stack: &mut [u6
                 index: at as u64,
             }
         }
-        Case::Parts(places) => {
+        Ok(places) => {
             let code = part_at(case, places.code, places.code_length);
             let members = part_at(case, places.members, places.members_length);
             let walk = block::simulate_block_in(
@@ -265,6 +266,7 @@ fn write_name(
 
 // Writes the name of a local, whose load stands at an index of the code, by the records and the signature of a case.
 #[unsafe(no_mangle)]
+#[tactic(auto, unfolding(answer::specs::Answer::numbered, casefile::specs::Parts::parts_of))]
 pub extern "C" fn korsepal_local_name(
     case: &[u8],
     local: u64,
@@ -275,15 +277,15 @@ pub extern "C" fn korsepal_local_name(
     ensures leaves { output.new ≡ case_named case.now local load output.old (case_of case.now) }
 {
     match casefile::read_case(case) {
-        Case::TooLong => KorsepalName {
+        Err(CaseError::TooLong) => KorsepalName {
             answer: 5,
             value: 0,
         },
-        Case::Wrong(at) => KorsepalName {
+        Err(CaseError::Wrong(at)) => KorsepalName {
             answer: 2,
             value: at as u64,
         },
-        Case::Parts(places) => {
+        Ok(places) => {
             let records = part_at(case, places.records, places.records_length);
             let signature = part_at(case, places.signature, places.signature_length);
             let instance = locals::is_instance(places.flags);

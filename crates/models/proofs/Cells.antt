@@ -16,8 +16,8 @@ use Rattle.basics.specs.Each.{Each}
 use Rattle.basics.proofs.Each.{each_length, each_at}
 use Rattle.casefile.specs.Parts.{Parts, parts_of}
 use Rattle.casefile.specs.Whole.{longest, case_of}
-use Rattle.casefile.specs.declared.Case.{Case}
-use Rattle.casefile.specs.declared.Case.TheVariants as cases
+use Rattle.casefile.specs.declared.CaseError.{CaseError}
+use Rattle.casefile.specs.declared.CaseError.TheVariants as cases
 use Rattle.casefile.specs.declared.Places.{Places}
 use Rattle.cases.proofs.Declared.{fits_of}
 use Rattle.cell.specs.Cell.{unpacked}
@@ -120,9 +120,9 @@ module _ (p : Parts) (are : AreBytes p.code) (short : length p.code ≤ 2 ^ 48) 
 -- ---- cases
 
 -- the code of a case is no longer than the case
-module _ (bytes : List ℕ) (are : AreBytes bytes) (places : Places) (reads : case_of bytes ≡ cases.Parts places) where
+module _ (bytes : List ℕ) (are : AreBytes bytes) (places : Places) (reads : case_of bytes ≡ Ok places) where
   few_bytes : length bytes ≤ longest
-  few_bytes = (fits_of bytes (cases.Parts places) (λ e. let z : ◌≡◌ {A = ℕ} 0 1 = cc in absurd (omega arith)) reads).0
+  few_bytes = (fits_of bytes (Ok places) (λ e. let z : ◌≡◌ {A = ℕ} 0 1 = cc in absurd (omega arith)) reads).0
 
   short_code : length (parts_of bytes places).code ≤ 2 ^ 48
   unfolding parts_of
@@ -135,16 +135,15 @@ module _ (bytes : List ℕ) (are : AreBytes bytes) (places : Places) (reads : ca
 
 module _ (w : Wording) (bytes : List ℕ) (are : AreBytes bytes) (room : ℕ) where
   answers_same :
-      (out_room : ℕ) (c : Case) → case_of bytes ≡ c → answer_of (manner_of Document w) bytes room out_room c ≡ former_answer w bytes room out_room c
-  answers_same out_room (cases.Parts places) reads = ap (λ (told : Said). answer_by told out_room) (case_same bytes are places reads w room)
-  answers_same out_room (cases.Wrong offset) reads = refl
-  answers_same out_room cases.TooLong reads = refl
+      (out_room : ℕ) (c : Result Places CaseError) → case_of bytes ≡ c → answer_of (manner_of Document w) bytes room out_room c ≡ former_answer w bytes room out_room c
+  answers_same out_room (Ok places) reads = ap (λ (told : Said). answer_by told out_room) (case_same bytes are places reads w room)
+  answers_same out_room (Err (cases.Wrong offset)) reads = refl
+  answers_same out_room (Err cases.TooLong) reads = refl
 
   outputs_same :
-      (out : List ℕ) (c : Case) → case_of bytes ≡ c → output_of (manner_of Document w) bytes room out c ≡ former_output w bytes room out c
-  outputs_same out (cases.Parts places) reads = ap (λ (told : Said). output_by told out) (case_same bytes are places reads w room)
-  outputs_same out (cases.Wrong offset) reads = refl
-  outputs_same out cases.TooLong reads = refl
+      (out : List ℕ) (c : Result Places CaseError) → case_of bytes ≡ c → output_of (manner_of Document w) bytes room out c ≡ former_output w bytes room out c
+  outputs_same out (Ok places) reads = ap (λ (told : Said). output_by told out) (case_same bytes are places reads w room)
+  outputs_same out (Err error) reads = refl
 
 pub present_unmoved : PresentUnmoved
 unfolding report_in reported_by

@@ -1,5 +1,6 @@
 -- Whole cases and their outputs: the parts say the same in both models, so the answers and the messages are the same.
 -- Assumes nothing.
+use Rattle.std.specs.Prelude.{Result, Ok, Err}
 use Prim.Native.Nat.{ℕ, ◌≤◌}
 use native.Mathlib.Omega.{arith}
 use mathlib.Core.Path.{◌≡◌, refl, ◌∙◌, sym, ap}
@@ -10,8 +11,8 @@ use lib.ListN.{length}
 use Rattle.basics.specs.Choice.{pick}
 use Rattle.casefile.specs.Parts.{Parts, parts_of}
 use Rattle.casefile.specs.Whole.{case_of}
-use Rattle.casefile.specs.declared.Case.{Case}
-use Rattle.casefile.specs.declared.Case.TheVariants as cases
+use Rattle.casefile.specs.declared.CaseError.{CaseError}
+use Rattle.casefile.specs.declared.CaseError.TheVariants as cases
 use Rattle.casefile.specs.declared.Places.{Places}
 use Rattle.answer.specs.Answer.{Said, silent, roomless, said, needed, answer_by, output_by}
 use Rattle.answer.specs.declared.Report.{Report}
@@ -30,7 +31,7 @@ use Rattle.models.proofs.Elsewhere.{same_elsewhere, same_lack}
 module _ (w : Wording) (bytes : List ℕ) (room room' : ℕ) (out out' : List ℕ) (size scan block : ℕ)
     (answer : report_in (old w) bytes room (length out) ≡ Message size 2 scan block) (enough : size ≤ length out')
     (roomy : (index : ℕ) → report_in (full w) bytes room' (length out') ≡ NoRoom index → ⊥) where
-  by_places : (places : Places) → case_of bytes ≡ cases.Parts places → SameReport w bytes room room' out out' size scan block
+  by_places : (places : Places) → case_of bytes ≡ Ok places → SameReport w bytes room room' out out' size scan block
   by_places places reads =
       let p : Parts = parts_of bytes places in
       let d = delivers (old w) bytes places reads room out size 2 scan block answer in
@@ -60,17 +61,17 @@ reports_alike = same_report
 -- where an answer of one manner is that of another for parts, it is for every case
 module _ (one other : Manner) (bytes : List ℕ) (room room' out_room out_room' : ℕ) (answer : Report) where
   by_parts :
-      ((places : Places) → case_of bytes ≡ cases.Parts places → answer_by (said_in one (parts_of bytes places) room) out_room ≡ answer →
+      ((places : Places) → case_of bytes ≡ Ok places → answer_by (said_in one (parts_of bytes places) room) out_room ≡ answer →
       answer_by (said_in other (parts_of bytes places) room') out_room' ≡ answer) →
       report_in one bytes room out_room ≡ answer → report_in other bytes room' out_room' ≡ answer
   unfolding report_in
   by_parts parts e = by_case (case_of bytes) refl e
     where
       by_case :
-          (c : Case) → case_of bytes ≡ c → answer_of one bytes room out_room c ≡ answer → answer_of other bytes room' out_room' c ≡ answer
-      by_case (cases.Parts places) reads q = parts places reads q
-      by_case (cases.Wrong offset) reads q = q
-      by_case cases.TooLong reads q = q
+          (c : Result Places CaseError) → case_of bytes ≡ c → answer_of one bytes room out_room c ≡ answer → answer_of other bytes room' out_room' c ≡ answer
+      by_case (Ok places) reads q = parts places reads q
+      by_case (Err (cases.Wrong offset)) reads q = q
+      by_case (Err cases.TooLong) reads q = q
 
 pub silent_answer : (told : Said) (out_room : ℕ) → answer_by told out_room ≡ NoMessage → told ≡ silent
 silent_answer silent out_room e = refl
@@ -113,7 +114,7 @@ no_room_alike w bytes room out_room out_room' index =
 -- ---- all answers and outputs, where document 01's model does not give up
 
 module _ (w : Wording) (bytes : List ℕ)
-    (elsewhere : (places : Places) → case_of bytes ≡ cases.Parts places → GivesUp (parts_of bytes places) → ⊥) where
+    (elsewhere : (places : Places) → case_of bytes ≡ Ok places → GivesUp (parts_of bytes places) → ⊥) where
   same_answers : (room out_room : ℕ) → report_in (full w) bytes room out_room ≡ report_in (old w) bytes room out_room
   same_answers room out_room =
       by_parts (old w) (full w) bytes room room out_room out_room (report_in (old w) bytes room out_room)
@@ -125,11 +126,10 @@ module _ (w : Wording) (bytes : List ℕ)
   unfolding reported_by
   same_outputs room out = by_case (case_of bytes) refl
     where
-      by_case : (c : Case) → case_of bytes ≡ c → output_of (full w) bytes room out c ≡ output_of (old w) bytes room out c
-      by_case (cases.Parts places) reads =
+      by_case : (c : Result Places CaseError) → case_of bytes ≡ c → output_of (full w) bytes room out c ≡ output_of (old w) bytes room out c
+      by_case (Ok places) reads =
           ap (λ (told : Said). output_by told out) (same_elsewhere w (parts_of bytes places) (elsewhere places reads) room)
-      by_case (cases.Wrong offset) reads = refl
-      by_case cases.TooLong reads = refl
+      by_case (Err error) reads = refl
 
 pub reports_elsewhere : ReportsElsewhere
 reports_elsewhere w bytes elsewhere =

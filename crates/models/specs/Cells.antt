@@ -8,8 +8,9 @@ use Rattle.basics.specs.Bytes.{AreBytes}
 use Rattle.basics.specs.Choice.{pick}
 use Rattle.casefile.specs.Parts.{Parts, parts_of}
 use Rattle.casefile.specs.Whole.{case_of}
-use Rattle.casefile.specs.declared.Case.{Case}
-use Rattle.casefile.specs.declared.Case.TheVariants as cases
+use Rattle.casefile.specs.declared.Places.{Places}
+use Rattle.casefile.specs.declared.CaseError.{CaseError}
+use Rattle.casefile.specs.declared.CaseError.TheVariants as cases
 use Rattle.effects.specs.Lookup.{lookup_in}
 use Rattle.effects.specs.Rows.{row_of}
 use Rattle.effects.specs.declared.Model.TheVariants.{Document}
@@ -56,15 +57,14 @@ former_said_at w p room (Failed action depth) = said_by w p action (former_trace
 abbrev pub former_said : Wording → Parts → ℕ → Said
 former_said w p room = former_said_at w p room (decoded p.code p.members p.member_count p.fault)
 
-abbrev pub former_answer : Wording → List ℕ → ℕ → ℕ → Case → Report
-former_answer w bytes room out_room (cases.Parts places) = answer_by (former_said w (parts_of bytes places) room) out_room
-former_answer w bytes room out_room (cases.Wrong offset) = report.Broken offset
-former_answer w bytes room out_room cases.TooLong = report.TooLong
+abbrev pub former_answer : Wording → List ℕ → ℕ → ℕ → Result Places CaseError → Report
+former_answer w bytes room out_room (Ok places) = answer_by (former_said w (parts_of bytes places) room) out_room
+former_answer w bytes room out_room (Err (cases.Wrong offset)) = report.Broken offset
+former_answer w bytes room out_room (Err cases.TooLong) = report.TooLong
 
-abbrev pub former_output : Wording → List ℕ → ℕ → List ℕ → Case → List ℕ
-former_output w bytes room out (cases.Parts places) = output_by (former_said w (parts_of bytes places) room) out
-former_output w bytes room out (cases.Wrong offset) = out
-former_output w bytes room out cases.TooLong = out
+abbrev pub former_output : Wording → List ℕ → ℕ → List ℕ → Result Places CaseError → List ℕ
+former_output w bytes room out (Ok places) = output_by (former_said w (parts_of bytes places) room) out
+former_output w bytes room out (Err error) = out
 
 -- ---- the statement
 

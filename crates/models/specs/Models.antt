@@ -3,12 +3,11 @@
 -- that it does not model. So the reports differ only there; a cause is the same, and with as many cells lent the full model has room
 -- for it too. All of it in either wording (request 11). proofs/ has a proof of each statement.
 -- Assumes nothing.
-use Rattle.std.specs.Prelude.{ℕ, ◌≤◌, ◌≡◌, List, length, Option}
+use Rattle.std.specs.Prelude.{ℕ, ◌≤◌, ◌≡◌, List, length, Option, Ok}
 use Rattle.cell.specs.declared.Load.{Load}
 use Rattle.text.specs.Writing.{over}
 use Rattle.casefile.specs.Parts.{Parts, parts_of}
 use Rattle.casefile.specs.Whole.{case_of}
-use Rattle.casefile.specs.declared.Case.TheVariants as cases
 use Rattle.casefile.specs.declared.Places.{Places}
 use Rattle.effects.specs.Lookup.{lookup_in}
 use Rattle.effects.specs.Rows.{row_of}
@@ -151,5 +150,5 @@ pub record SameInBoth (w : Wording) (bytes : List ℕ) : Type 0 where
 -- every case but those on whose parts document 01's model gives up; one that is broken or too long has no parts
 abbrev pub ReportsElsewhere : Type 0
 ReportsElsewhere =
-    (w : Wording) (bytes : List ℕ) → ((places : Places) → case_of bytes ≡ cases.Parts places → GivesUp (parts_of bytes places) → ⊥) →
+    (w : Wording) (bytes : List ℕ) → ((places : Places) → case_of bytes ≡ Ok places → GivesUp (parts_of bytes places) → ⊥) →
     SameInBoth w bytes

@@ -8,8 +8,9 @@ use Rattle.leader.specs.Scan.{block_leader}
 use Rattle.leader.specs.declared.Scanned.{Scanned}
 use Rattle.casefile.specs.Parts.{Parts, parts_of}
 use Rattle.casefile.specs.Whole.{case_of}
-use Rattle.casefile.specs.declared.Case.{Case}
-use Rattle.casefile.specs.declared.Case.TheVariants as cases
+use Rattle.casefile.specs.declared.Places.{Places}
+use Rattle.casefile.specs.declared.CaseError.{CaseError}
+use Rattle.casefile.specs.declared.CaseError.TheVariants as cases
 use Rattle.effects.specs.declared.Model.{Model}
 use Rattle.effects.specs.declared.Model.TheVariants.{Document, Full}
 use Rattle.answer.specs.Answer.{kind_of, Said, silent, roomless, said, answer_by, output_by}
@@ -99,15 +100,14 @@ said_of p room = said_in document_manner p room
 
 -- ---- a whole case: "Tested in the order 5, 2, 1, 3, 4."
 
-abbrev pub answer_of : Manner → List ℕ → ℕ → ℕ → Case → Report
-answer_of manner bytes room out_room (cases.Parts places) = answer_by (said_in manner (parts_of bytes places) room) out_room
-answer_of manner bytes room out_room (cases.Wrong offset) = report.Broken offset
-answer_of manner bytes room out_room cases.TooLong = report.TooLong
+abbrev pub answer_of : Manner → List ℕ → ℕ → ℕ → Result Places CaseError → Report
+answer_of manner bytes room out_room (Ok places) = answer_by (said_in manner (parts_of bytes places) room) out_room
+answer_of manner bytes room out_room (Err (cases.Wrong offset)) = report.Broken offset
+answer_of manner bytes room out_room (Err cases.TooLong) = report.TooLong
 
-abbrev pub output_of : Manner → List ℕ → ℕ → List ℕ → Case → List ℕ
-output_of manner bytes room out (cases.Parts places) = output_by (said_in manner (parts_of bytes places) room) out
-output_of manner bytes room out (cases.Wrong offset) = out
-output_of manner bytes room out cases.TooLong = out
+abbrev pub output_of : Manner → List ℕ → ℕ → List ℕ → Result Places CaseError → List ℕ
+output_of manner bytes room out (Ok places) = output_by (said_in manner (parts_of bytes places) room) out
+output_of manner bytes room out (Err error) = out
 
 -- the bytes of a case, and the cells and the output that are lent: the answer and the output, in a manner
 unfoldable pub report_in : Manner → List ℕ → ℕ → ℕ → Report

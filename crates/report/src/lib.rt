@@ -6,7 +6,7 @@ ghost use Rattle.answer.specs.Answer.{Delivered};
 ghost use Rattle.report.specs.Report.{model_by, document_manner, default_manner, full_manner, parts_by, said_in, report_in, reported_by, report_worded, reported_worded};
 
 use answer::{Report, write_message};
-use casefile::Case;
+use casefile::CaseError;
 use cell::clear;
 use effects::Model;
 use fault::Fault;
@@ -148,21 +148,22 @@ pub fn report_parts(
 }
 
 // Reports on a case in a manner. The lent stack is zero afterwards, whatever is answered.
+#[tactic(auto, unfolding(crate::specs::Report::report_in, crate::specs::Report::reported_by, casefile::specs::Parts::parts_of))]
 pub fn build_message_in(manner: Manner, case: &[u8], stack: &mut [u64], out: &mut [u8]) -> Report
     ensures answers { result ≡ report_in manner case.now (length stack.old) (length out.old) }
     ensures leaves { out.new ≡ reported_by manner case.now (length stack.old) out.old }
     ensures clears { stack.new ≡ replicate (length stack.old) 0 }
 {
     match casefile::read_case(case) {
-        Case::TooLong => {
+        Err(CaseError::TooLong) => {
             clear(stack);
             Report::TooLong
         }
-        Case::Wrong(at) => {
+        Err(CaseError::Wrong(at)) => {
             clear(stack);
             Report::Broken { at }
         }
-        Case::Parts(places) => {
+        Ok(places) => {
             let code = part_at(case, places.code, places.code_length);
             let signature = part_at(case, places.signature, places.signature_length);
             let members = part_at(case, places.members, places.members_length);

@@ -9,7 +9,8 @@ use Rattle.walk.specs.declared.Walk.TheVariants.{Done, Failed, NoRoom}
 use Rattle.bytecode.specs.Length.{numbered as length_numbered}
 use Rattle.bytecode.specs.declared.Unmeasured.{Unmeasured}
 use Rattle.casefile.specs.Whole.{numbered as case_numbered}
-use Rattle.casefile.specs.declared.Case.{Case}
+use Rattle.casefile.specs.declared.Places.{Places}
+use Rattle.casefile.specs.declared.CaseError.{CaseError}
 use Rattle.judging.specs.Judged.{Answer, numbered as strict_numbered}
 use Rattle.leader.specs.Scan.{numbered as leader_numbered}
 use Rattle.leader.specs.declared.Scanned.{Scanned}
@@ -71,7 +72,7 @@ walk_numbers (Failed count) = record { outcome = nth 0 (walk_numbered (Failed co
 walk_numbers (NoRoom index) = record { outcome = nth 0 (walk_numbered (NoRoom index)); height = 0; count = 0; index = index }
 
 -- a case that is not read: 2 with the offset, 5 too long
-abbrev pub unread : Case → KorsepalWalk
+abbrev pub unread : Result Places CaseError → KorsepalWalk
 unread c = record { outcome = nth 0 (case_numbered c); height = 0; count = 0; index = nth 1 (case_numbered c) }
 
 -- 0 and the length, or as a report's 2, 4 and 5

@@ -1,12 +1,12 @@
 // Rows on the reader of cases.
 use crate::{Told, told, told_with};
-use casefile::Case;
+use casefile::CaseError;
 use text::put_at;
 
 // case | what | bytes => document 01's number for the answer with what it carries, or 0 and where the parts lie
 fn case(bytes: &[u8]) -> Told {
     match casefile::read_case(bytes) {
-        Case::Parts(p) => [
+        Ok(p) => [
             0,
             p.flags,
             p.fault,
@@ -22,8 +22,8 @@ fn case(bytes: &[u8]) -> Told {
             p.record_count,
             0,
         ],
-        Case::Wrong(offset) => told(1, offset, 0, 0),
-        Case::TooLong => told(2, 0, 0, 0),
+        Err(CaseError::Wrong(offset)) => told(1, offset, 0, 0),
+        Err(CaseError::TooLong) => told(2, 0, 0, 0),
     }
 }
 

@@ -1,5 +1,6 @@
 -- A number names wording 1, wording 2 or none. A report in a manner is never answered 11.
 -- Assumes nothing.
+use Rattle.std.specs.Prelude.{Result, Ok, Err}
 use Prim.Native.Nat.{ℕ}
 use native.Mathlib.Omega.{arith}
 use mathlib.Core.Path.{◌≡◌, refl, ◌∙◌, sym}
@@ -12,8 +13,8 @@ use Rattle.basics.specs.Choice.{pick}
 use Rattle.jvms.specs.Machine.{Pool}
 use Rattle.casefile.specs.Parts.{parts_of}
 use Rattle.casefile.specs.Whole.{case_of}
-use Rattle.casefile.specs.declared.Case.{Case}
-use Rattle.casefile.specs.declared.Case.TheVariants as cases
+use Rattle.casefile.specs.declared.CaseError.{CaseError}
+use Rattle.casefile.specs.declared.CaseError.TheVariants as cases
 use Rattle.casefile.specs.declared.Places.{Places}
 use Rattle.effects.specs.declared.Model.{Model}
 use Rattle.answer.specs.Answer.{Said, silent, roomless, said, needed, answer_by}
@@ -51,10 +52,10 @@ not_reported : (manner : Manner) (bytes : List ℕ) (room out_room : ℕ) → re
 unfolding report_in
 not_reported manner bytes room out_room e = by_case (case_of bytes) e
   where
-    by_case : (c : Case) → answer_of manner bytes room out_room c ≡ NoWording → ⊥
-    by_case (cases.Parts places) q = not_said (said_in manner (parts_of bytes places) room) out_room q
-    by_case (cases.Wrong offset) q = let z : ◌≡◌ {A = ℕ} 0 1 = cc in omega arith
-    by_case cases.TooLong q = let z : ◌≡◌ {A = ℕ} 0 1 = cc in omega arith
+    by_case : (c : Result Places CaseError) → answer_of manner bytes room out_room c ≡ NoWording → ⊥
+    by_case (Ok places) q = not_said (said_in manner (parts_of bytes places) room) out_room q
+    by_case (Err (cases.Wrong offset)) q = let z : ◌≡◌ {A = ℕ} 0 1 = cc in omega arith
+    by_case (Err cases.TooLong) q = let z : ◌≡◌ {A = ℕ} 0 1 = cc in omega arith
 
 module _ (model : Model) (number : ℕ) (bytes : List ℕ) (room out_room : ℕ)
     (answer : report_worded model number bytes room out_room ≡ NoWording) where
@@ -92,7 +93,7 @@ calls_worded =
 -- ---- evidence
 
 module _ (model : Model) (number : ℕ) (bytes : List ℕ) (places : Places) (pool : Pool) (room : ℕ) (out : List ℕ)
-    (size scan block : ℕ) (are : AreBytes bytes) (reads : case_of bytes ≡ cases.Parts places)
+    (size scan block : ℕ) (are : AreBytes bytes) (reads : case_of bytes ≡ Ok places)
     (described : WellDescribed (parts_of bytes places) pool) where
   by_name :
       (name : Named) → wording_by number ≡ name →

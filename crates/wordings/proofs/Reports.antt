@@ -1,5 +1,6 @@
 -- Whole cases and their outputs: what is said of the parts differs in one word, so the answers differ by its length.
 -- Assumes nothing.
+use Rattle.std.specs.Prelude.{Result, Ok, Err}
 use Prim.Native.Nat.{ℕ, ◌+◌, ◌≤◌, ◌<◌}
 use native.Mathlib.Omega.{arith}
 use mathlib.Core.Path.{◌≡◌, refl, ◌∙◌, sym, ap}
@@ -13,8 +14,8 @@ use Rattle.basics.specs.Choice.{pick}
 use Rattle.text.specs.Writing.{over}
 use Rattle.casefile.specs.Parts.{Parts, parts_of}
 use Rattle.casefile.specs.Whole.{case_of}
-use Rattle.casefile.specs.declared.Case.{Case}
-use Rattle.casefile.specs.declared.Case.TheVariants as cases
+use Rattle.casefile.specs.declared.CaseError.{CaseError}
+use Rattle.casefile.specs.declared.CaseError.TheVariants as cases
 use Rattle.casefile.specs.declared.Places.{Places}
 use Rattle.effects.specs.declared.Model.{Model}
 use Rattle.answer.specs.Answer.{Said, silent, roomless, said, needed, answer_by, output_by}
@@ -100,7 +101,7 @@ module _ (model : Model) (bytes : List ℕ) (room : ℕ) (out out' : List ℕ) w
   -- what is said is the same and makes this answer of every output, and changes none
   by_said :
       (told : Said) (answer : Report) → ((out_room : ℕ) → answer_by told out_room ≡ answer) →
-      ((o : List ℕ) → output_by told o ≡ o) → (places : Places) → case_of bytes ≡ cases.Parts places →
+      ((o : List ℕ) → output_by told o ≡ o) → (places : Places) → case_of bytes ≡ Ok places →
       said_in (in_wording1 model) (parts_of bytes places) room ≡ told →
       said_in (in_wording2 model) (parts_of bytes places) room ≡ told → Unworded model bytes room out out' answer
   by_said told answer answers outputs places reads says says' =
@@ -111,48 +112,47 @@ module _ (model : Model) (bytes : List ℕ) (room : ℕ) (out out' : List ℕ) w
       }
 
   no-message :
-      (c : Case) → case_of bytes ≡ c → answer_of (in_wording1 model) bytes room (length out) c ≡ NoMessage →
+      (c : Result Places CaseError) → case_of bytes ≡ c → answer_of (in_wording1 model) bytes room (length out) c ≡ NoMessage →
       Unworded model bytes room out out' NoMessage
-  no-message (cases.Parts places) reads q =
+  no-message (Ok places) reads q =
       let says = silent_answer (said_in (in_wording1 model) (parts_of bytes places) room) (length out) q in
       by_said silent NoMessage (λ out_room. refl) (λ o. refl) places reads says
       ((only_that_word model (parts_of bytes places) room).nothing says)
-  no-message (cases.Wrong offset) reads q = let z : ◌≡◌ {A = ℕ} 0 1 = cc in absurd (omega arith)
-  no-message cases.TooLong reads q = let z : ◌≡◌ {A = ℕ} 0 1 = cc in absurd (omega arith)
+  no-message (Err (cases.Wrong offset)) reads q = let z : ◌≡◌ {A = ℕ} 0 1 = cc in absurd (omega arith)
+  no-message (Err cases.TooLong) reads q = let z : ◌≡◌ {A = ℕ} 0 1 = cc in absurd (omega arith)
 
   no-room :
-      (index : ℕ) (c : Case) → case_of bytes ≡ c → answer_of (in_wording1 model) bytes room (length out) c ≡ NoRoom index →
+      (index : ℕ) (c : Result Places CaseError) → case_of bytes ≡ c → answer_of (in_wording1 model) bytes room (length out) c ≡ NoRoom index →
       Unworded model bytes room out out' (NoRoom index)
-  no-room index (cases.Parts places) reads q =
+  no-room index (Ok places) reads q =
       let says = roomless_answer (said_in (in_wording1 model) (parts_of bytes places) room) (length out) index q in
       by_said (roomless index) (NoRoom index) (λ out_room. refl) (λ o. refl) places reads says
       ((only_that_word model (parts_of bytes places) room).lacking index says)
-  no-room index (cases.Wrong offset) reads q = let z : ◌≡◌ {A = ℕ} 0 1 = cc in absurd (omega arith)
-  no-room index cases.TooLong reads q = let z : ◌≡◌ {A = ℕ} 0 1 = cc in absurd (omega arith)
+  no-room index (Err (cases.Wrong offset)) reads q = let z : ◌≡◌ {A = ℕ} 0 1 = cc in absurd (omega arith)
+  no-room index (Err cases.TooLong) reads q = let z : ◌≡◌ {A = ℕ} 0 1 = cc in absurd (omega arith)
 
 -- ---- every other case
 
 module _ (model : Model) (bytes : List ℕ) (other : (begin : List ℕ) → AtThatWord bytes begin → ⊥) (room : ℕ) where
   same :
-      (places : Places) → case_of bytes ≡ cases.Parts places →
+      (places : Places) → case_of bytes ≡ Ok places →
       said_in (in_wording2 model) (parts_of bytes places) room ≡ said_in (in_wording1 model) (parts_of bytes places) room
   same places reads =
       (only_that_word model (parts_of bytes places) room).elsewhere
       (λ begin begins. other begin (record { places = places; reads = reads; begins = begins }))
 
   same_answer :
-      (out_room : ℕ) (c : Case) → case_of bytes ≡ c →
+      (out_room : ℕ) (c : Result Places CaseError) → case_of bytes ≡ c →
       answer_of (in_wording2 model) bytes room out_room c ≡ answer_of (in_wording1 model) bytes room out_room c
-  same_answer out_room (cases.Parts places) reads = ap (λ (told : Said). answer_by told out_room) (same places reads)
-  same_answer out_room (cases.Wrong offset) reads = refl
-  same_answer out_room cases.TooLong reads = refl
+  same_answer out_room (Ok places) reads = ap (λ (told : Said). answer_by told out_room) (same places reads)
+  same_answer out_room (Err (cases.Wrong offset)) reads = refl
+  same_answer out_room (Err cases.TooLong) reads = refl
 
   same_output :
-      (out : List ℕ) (c : Case) → case_of bytes ≡ c →
+      (out : List ℕ) (c : Result Places CaseError) → case_of bytes ≡ c →
       output_of (in_wording2 model) bytes room out c ≡ output_of (in_wording1 model) bytes room out c
-  same_output out (cases.Parts places) reads = ap (λ (told : Said). output_by told out) (same places reads)
-  same_output out (cases.Wrong offset) reads = refl
-  same_output out cases.TooLong reads = refl
+  same_output out (Ok places) reads = ap (λ (told : Said). output_by told out) (same places reads)
+  same_output out (Err error) reads = refl
 
 pub reports_that_word : (model : Model) (bytes : List ℕ) → ReportsThatWord model bytes
 unfolding report_in reported_by

@@ -2,12 +2,11 @@
 -- "Refusals: 11 for a wording other than 1 or 2, tested first." Of what `build_message_worded` answers and leaves, by its contract; its
 -- stack is zero afterwards for every number. proofs/Numbers.antt has the proof.
 -- Assumes nothing.
-use Rattle.std.specs.Prelude.{ℕ, ◌≡◌, List, length}
+use Rattle.std.specs.Prelude.{ℕ, ◌≡◌, List, length, Ok}
 use Rattle.basics.specs.Bytes.{AreBytes}
 use Rattle.jvms.specs.Machine.{Pool}
 use Rattle.casefile.specs.Parts.{parts_of}
 use Rattle.casefile.specs.Whole.{case_of}
-use Rattle.casefile.specs.declared.Case.TheVariants as cases
 use Rattle.casefile.specs.declared.Places.{Places}
 use Rattle.effects.specs.declared.Model.{Model}
 use Rattle.effects.specs.declared.Model.TheVariants.{Document, Full}
@@ -73,6 +72,6 @@ pub record WordedEvidence (model : Model) (number : ℕ) (bytes : List ℕ) (pla
 abbrev pub WordedIsEvidence : Type 1
 WordedIsEvidence =
     (model : Model) (number : ℕ) (bytes : List ℕ) (places : Places) (pool : Pool) (room : ℕ) (out : List ℕ) (size scan block : ℕ) →
-    AreBytes bytes → case_of bytes ≡ cases.Parts places → WellDescribed (parts_of bytes places) pool →
+    AreBytes bytes → case_of bytes ≡ Ok places → WellDescribed (parts_of bytes places) pool →
     report_worded model number bytes room (length out) ≡ Message size 2 scan block →
     WordedEvidence model number bytes places pool room out size scan block

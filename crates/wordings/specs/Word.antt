@@ -1,13 +1,12 @@
 -- The two wordings of a report beside each other (document 02, request 11): "wording 2 differs from it only in that word, and its room is
 -- judged by its own length." In either model. proofs/ has a proof of each statement.
 -- Assumes nothing.
-use Rattle.std.specs.Prelude.{ℕ, ◌+◌, ◌≤◌, ◌<◌, ◌≡◌, List, ◌++◌, length}
+use Rattle.std.specs.Prelude.{ℕ, ◌+◌, ◌≤◌, ◌<◌, ◌≡◌, List, ◌++◌, length, Ok}
 use Rattle.basics.specs.Ascii.{ascii}
 use Rattle.basics.specs.Bytes.{byte_at}
 use Rattle.text.specs.Writing.{over}
 use Rattle.casefile.specs.Parts.{Parts, parts_of}
 use Rattle.casefile.specs.Whole.{case_of}
-use Rattle.casefile.specs.declared.Case.TheVariants as cases
 use Rattle.casefile.specs.declared.Places.{Places}
 use Rattle.effects.specs.declared.Model.{Model}
 use Rattle.answer.specs.Answer.{silent, roomless, said}
@@ -58,7 +57,7 @@ pub record OnlyThatWord (model : Model) (p : Parts) (room : ℕ) : Type 0 where
 -- the fault of a case is at one of the two opcodes
 pub record AtThatWord (bytes begin : List ℕ) : Type 0 where
   pub places : Places
-  pub reads : case_of bytes ≡ cases.Parts places
+  pub reads : case_of bytes ≡ Ok places
   pub begins : Begins (faulting (parts_of bytes places)) begin
 
 -- what wording 1 answers and writes, and wording 2 with another output: the word has eight bytes more
