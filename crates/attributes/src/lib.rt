@@ -47,10 +47,8 @@ pub fn read_attributes(
         file.now from) }
 {
     let mut at = from;
-    let mut left = count;
-    while 0 < left {
+    for _ in 0..count {
         at = read_attribute(file, table, at, limit)?;
-        left -= 1;
     }
     Ok(at)
 }
@@ -86,10 +84,8 @@ pub fn read_fields(
         file.now from) }
 {
     let mut at = from;
-    let mut left = count;
-    while 0 < left {
+    for _ in 0..count {
         at = read_field(file, table, at, limit)?;
-        left -= 1;
     }
     Ok(at)
 }
@@ -99,13 +95,11 @@ pub fn read_interfaces(file: &[u8], from: usize, count: usize, limit: usize) -> 
     ensures { result ≡ run_of (read_by (times count (interface_format limit)) file.now from) }
 {
     let mut at = from;
-    let mut left = count;
-    while 0 < left {
+    for _ in 0..count {
         let Some((_, next)) = read_u2(file, at, limit) else {
             return Err(at);
         };
         at = next;
-        left -= 1;
     }
     Ok(at)
 }

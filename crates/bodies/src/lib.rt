@@ -71,10 +71,8 @@ pub fn read_handlers(file: &[u8], from: usize, count: usize, limit: usize) -> Re
     ensures { result ≡ run_of (read_by (times count (handler_format limit)) file.now from) }
 {
     let mut at = from;
-    let mut left = count;
-    while 0 < left {
+    for _ in 0..count {
         at = read_handler(file, at, limit)?;
-        left -= 1;
     }
     Ok(at)
 }
@@ -127,11 +125,9 @@ fn read_locals(
         file.now from) }
 {
     let mut at = from;
-    let mut left = count;
-    while 0 < left {
+    for _ in 0..count {
         let local = read_local(file, table, at, limit)?;
         at = local.next;
-        left -= 1;
     }
     Ok(at)
 }
@@ -186,10 +182,8 @@ fn read_code_attributes(
         file.now from) }
 {
     let mut at = from;
-    let mut left = count;
-    while 0 < left {
+    for _ in 0..count {
         at = read_code_attribute(file, table, at, limit)?;
-        left -= 1;
     }
     Ok(at)
 }

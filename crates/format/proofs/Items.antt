@@ -6,7 +6,7 @@ use Rattle.std.proofs.lemmas.Option.{some_pair_parts}
 use Rattle.std.proofs.lemmas.Result.{err_from_is_err_and}
 use Prim.Native.Nat.{ℕ, zero, suc, ◌+◌, ◌-◌, ◌≤◌, ◌<◌}
 use native.Mathlib.Omega.{arith}
-use mathlib.Core.Path.{◌≡◌, refl, ◌∙◌, sym, ap, subst}
+use mathlib.Core.Path.{◌≡◌, refl, ◌∙◌, sym, ap}
 use mathlib.Core.Bool.{Bool, true, false}
 use mathlib.Core.List.{List, ◌∷◌}
 use lib.Dec.{leb}
@@ -271,13 +271,11 @@ module _ {A : Type 0} (one : Format A) {file : List ℕ} {at : ℕ} where
   turn_wrong make (suc n) some is = then_wrong one (λ a. and_then (times n one) (λ more. done (a ∷ more))) make is
 
   pub turn_right :
-      (left : ℕ) {next : ℕ} → 0 < left → run_of (read_by one file at) ≡ Ok next →
-      Tells run_of (times left one) file at (run_of (read_by (times (left - 1) one) file next))
-  unfolding times read_by
-  turn_right zero some is = absurd (omega arith)
-  turn_right (suc n) {next} some is =
-      let less : suc n - 1 ≡ n = omega arith in
-      rw less (then_right one (λ a. and_then (times n one) (λ more. done (a ∷ more))) is (λ a. then_done (times n one) (λ more. a ∷ more)))
+      (left after : ℕ) {next : ℕ} → left ≡ suc after → run_of (read_by one file at) ≡ Ok next →
+      Tells run_of (times left one) file at (run_of (read_by (times after one) file next))
+  unfolding times
+  turn_right left after some is =
+      rw some (then_right one (λ a. and_then (times after one) (λ more. done (a ∷ more))) is (λ a. then_done (times after one) (λ more. a ∷ more)))
 
   pub none_left : (left : ℕ) → left ≤ 0 → Tells run_of (times left one) file at (Ok at)
   unfolding times read_by
@@ -294,13 +292,10 @@ module _ {A B : Type 0} {tell : Reading A → B} (one : A → Format A) (a : A) 
   each_wrong make (suc n) some is = then_wrong (one a) (λ b. each n one b) make is
 
   pub each_read :
-      (left : ℕ) {b : A} {next : ℕ} {answer : B} → 0 < left → read_by (one a) file at ≡ right b next →
-      Tells tell (each (left - 1) one b) file next answer → Tells tell (each left one a) file at answer
+      (left after : ℕ) {b : A} {next : ℕ} {answer : B} → left ≡ suc after → read_by (one a) file at ≡ right b next →
+      Tells tell (each after one b) file next answer → Tells tell (each left one a) file at answer
   unfolding each
-  each_read zero some is onward = absurd (omega arith)
-  each_read (suc n) {b} {next} {answer} some is onward =
-      let less : suc n - 1 ≡ n = omega arith in
-      then-read (one a) (λ b. each n one b) is (subst (λ (k : ℕ). Tells tell (each k one b) file next answer) less onward)
+  each_read left after some is onward = rw some (then-read (one a) (λ b. each after one b) is onward)
 
   pub each_none : (left : ℕ) → left ≤ 0 → Tells tell (each left one a) file at (tell (right a at))
   unfolding each

@@ -94,13 +94,11 @@ fn read_method_attributes(
         file.now from) }
 {
     let mut at = from;
-    let mut left = count;
     let mut body = None;
-    while 0 < left {
+    for _ in 0..count {
         let (found, next) = read_method_attribute(file, table, at, limit, body)?;
         body = found;
         at = next;
-        left -= 1;
     }
     Ok((body, at))
 }
@@ -154,11 +152,9 @@ pub fn read_methods(
         file.now from) }
 {
     let mut at = from;
-    let mut left = count;
-    while 0 < left {
+    for _ in 0..count {
         let method = read_method(file, table, at, limit)?;
         at = method.next;
-        left -= 1;
     }
     Ok(at)
 }

@@ -1,5 +1,7 @@
 -- `bodies::read_handlers` meets its contract. The invariant: what is left answers what all of it answers.
 -- Assumes nothing.
+use Prim.Native.Nat.{◌+◌, ◌-◌}
+use native.Mathlib.Omega.{arith}
 use mathlib.Core.Path.{◌∙◌, sym}
 use Rattle.format.proofs.Items.{passed_on, turn_wrong, turn_right, none_left}
 use Rattle.classformat.specs.ClassFile.{handler_format}
@@ -8,22 +10,22 @@ use Rattle.bodies.proofs.read_handlers.Goals as goal
 pub returns-in_err-at : goal.returns-in_err-at
 returns-in_err-at c =
     let a = c.args in
-    let l = c.loop-left in
+    let l = c.loop in
     let one = handler_format a.limit in
     let wrong-is = sym c.read_handler.ensures ∙ c.in_err-at.was in
-    passed_on c.from_residual.ensures.1 ∙ sym (l.invariant ∙ (turn_wrong one _ l.left c.loop-left-test.true wrong-is).is)
+    passed_on c.from_residual.ensures.1 ∙ sym (l.invariant ∙ (turn_wrong one _ (a.count - l.counter) (omega arith) wrong-is).is)
 
-pub loop-left-preserved : goal.loop-left-preserved
-loop-left-preserved c =
+pub loop-preserved : goal.loop-preserved
+loop-preserved c =
     let a = c.args in
-    let l = c.loop-left in
+    let l = c.loop in
     let one = handler_format a.limit in
     let next_is = sym c.read_handler.ensures ∙ c.in_ok-at.was in
-    l.invariant ∙ (turn_right one l.left c.loop-left-test.true next_is).is
+    l.invariant ∙ (turn_right one (a.count - l.counter) (a.count - (l.counter + 1)) (omega arith) next_is).is
 
 pub returns : goal.returns
 returns c =
     let a = c.args in
-    let l = c.loop-left in
+    let l = c.loop in
     let one = handler_format a.limit in
-    sym (l.invariant ∙ (none_left one l.left c.loop-left-test.false).is)
+    sym (l.invariant ∙ (none_left one (a.count - l.counter) (omega arith)).is)

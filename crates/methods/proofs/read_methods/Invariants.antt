@@ -1,5 +1,6 @@
 -- `methods::read_methods` meets its contract. The invariant: what is left answers what all of it answers.
 -- Assumes nothing.
+use Prim.Native.Nat.{◌-◌}
 use mathlib.Core.Path.{◌≡◌}
 use Rattle.format.specs.Format.{times, read_by}
 use Rattle.format.specs.Items.{run_of}
@@ -7,8 +8,5 @@ use Rattle.classformat.specs.ClassFile.{method_format}
 use Rattle.entries.specs.Entries.{names_by}
 use Rattle.methods.proofs.read_methods.Given as goal
 
-abbrev pub invariant-loop-left : goal.invariant-loop-left
-invariant-loop-left l = run_of (read_by (times l.count (method_format (names_by l.file l.table) l.limit)) l.file l.from) ≡ run_of (read_by (times l.left (method_format (names_by l.file l.table) l.limit)) l.file l.at)
-
-abbrev pub decreases-loop-left : goal.decreases-loop-left
-decreases-loop-left l = l.left
+abbrev pub invariant-loop : goal.invariant-loop
+invariant-loop l = run_of (read_by (times l.count (method_format (names_by l.file l.table) l.limit)) l.file l.from) ≡ run_of (read_by (times (l.count - l.counter) (method_format (names_by l.file l.table) l.limit)) l.file l.at)
