@@ -11,7 +11,7 @@ use lib.ListN.{length, take, drop, length-append}
 use Rattle.basics.specs.Ascii.{ascii}
 use Rattle.basics.specs.Choice.{pick, same_list}
 use Rattle.basics.proofs.Choice.{chosen}
-use Rattle.fieldtype.specs.Search.{first_from}
+use Rattle.bytesearch.specs.Search.{first_from}
 use Rattle.fieldtype.specs.Types.{field_type_at, taken_inside, types_step, list_over, types_from, types_at, types_of}
 use Rattle.fieldtype.specs.declared.FieldType.{FieldType}
 use Rattle.fieldtype.proofs.Bounds.{taken-inside}

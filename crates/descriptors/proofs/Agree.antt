@@ -14,7 +14,7 @@ use borrow.Author.Tests.{ne_eqb, lt-leb}
 use Rattle.basics.specs.Ascii.{ascii}
 use Rattle.basics.specs.Bytes.{byte_at}
 use Rattle.basics.specs.Choice.{pick, both}
-use Rattle.fieldtype.specs.Search.{first_in, first_from}
+use Rattle.bytesearch.specs.Search.{first_in, first_from, run}
 use Rattle.fieldtype.specs.Types.{brackets, base_type, type_behind, field_type_at, is_wide, type_slots, Types, over, one, types_at, types_of}
 use Rattle.descriptor.specs.Readers.{slots_of, judged, parameters, byte_slots, slots_behind, return_slots, field_slots}
 use Rattle.fieldtype.specs.declared.FieldType.{FieldType}
@@ -77,13 +77,13 @@ no_bracket short = refl
 no_bracket boolean = refl
 
 element_opens_none : (t : Tree) (rest : List ℕ) → brackets (element t ++ rest) ≡ 0
-unfolding brackets
+unfolding run
 element_opens_none (base b) rest = rw (no_bracket b)
 element_opens_none (class name) rest = refl
 element_opens_none (array t) rest = element_opens_none t rest
 
 brackets_are : (d : ℕ) (rest : List ℕ) → brackets (opened d ++ rest) ≡ d + brackets rest
-unfolding brackets
+unfolding run
 brackets_are zero rest = omega arith
 brackets_are (suc d) rest = omega (arith, brackets_are d rest)
 

@@ -17,10 +17,10 @@ use Rattle.descriptor.specs.Readers.{slots_of, judged, parameters, closing, byte
 use Rattle.descriptor.specs.declared.Params.TheVariants.{Read, Unreadable as UnreadableParams}
 use Rattle.descriptor.specs.declared.Slots.TheVariants.{Slots as SlotsOf, Unreadable as NoSlots}
 use Rattle.descriptor.proofs.Return.{behind_end, behind_none}
-use Rattle.fieldtype.specs.Search.{first_in, first_from}
+use Rattle.bytesearch.specs.Search.{first_in, first_from}
 use Rattle.fieldtype.specs.Types.{field_type_at, taken_inside, types_step, list_over, types_from, types_at, types_of}
 use Rattle.fieldtype.proofs.Bounds.{taken-inside}
-use Rattle.fieldtype.proofs.Steps.{found_here, found_nowhere}
+use Rattle.bytesearch.proofs.Search.{found_here, found_nowhere}
 use Rattle.fieldtype.specs.declared.FieldType.{FieldType}
 use Rattle.jvms.specs.Descriptor.{int, base, class, void, typed, MethodType, render, render_all, render_return, render_method, WellFormed, WellFormedMethod}
 use Rattle.descriptors.specs.Place.{first_place, first_return, last_place, Returns, occurs, NoneBefore, ReturnPlace}

@@ -8,7 +8,7 @@ use Rattle.descriptor.specs.Readers.{parameters, closing, byte_slots, slots_behi
 use Rattle.descriptor.specs.declared.Params.TheVariants.{Read, Unreadable as UnreadableParams}
 use Rattle.descriptor.specs.declared.Slots.{Slots}
 use Rattle.descriptor.specs.declared.Slots.TheVariants.{Slots as SlotsOf, Unreadable as NoSlots}
-use Rattle.fieldtype.specs.Search.{first_from}
+use Rattle.bytesearch.specs.Search.{first_from}
 use Rattle.jvms.specs.Descriptor.{MethodType, render_method, WellFormedMethod}
 use Rattle.jvms.specs.Descriptor.{return_slots as tree_return_slots}
 

@@ -16,7 +16,7 @@ use Rattle.greatest.specs.Greatest.{up_to, greatest}
 use Rattle.leader.specs.Scan.{scan_from, instructions, scan_count, leaders_of, answered, block_leader}
 use Rattle.branch.specs.Branch.{branch_of}
 use Rattle.leader.specs.Targets.{leaders_at}
-use Rattle.fieldtype.specs.Search.{first_in, first_from}
+use Rattle.bytesearch.specs.Search.{first_in, first_from}
 use Rattle.text.specs.Decimal.{digits, decimal}
 use Rattle.text.specs.Writing.{over}
 use Rattle.number.specs.Number.{number_from, number_at}

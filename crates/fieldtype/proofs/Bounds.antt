@@ -1,46 +1,21 @@
--- What is found, and what is read, lies in the text.
+-- What is read lies in the text.
 -- Assumes nothing.
 use Rattle.std.specs.Prelude.{Option, Some, None}
-use Prim.Native.Nat.{ℕ, ◌+◌, ◌≤◌, ◌<◌}
+use Prim.Native.Nat.{ℕ, ◌+◌, ◌<◌}
 use native.Mathlib.Omega.{arith}
 use mathlib.Core.Path.{◌≡◌, refl}
 use mathlib.Core.Bool.{Bool, true, false}
-use mathlib.Core.List.{List, [], ◌∷◌}
+use mathlib.Core.List.{List}
 use lib.Dec.{eqb, leb}
-use lib.ListN.{length, drop, length-drop}
+use lib.ListN.{length, drop}
 use borrow.Author.Tests.{leb-false}
 use Rattle.basics.specs.Ascii.{ascii}
 use Rattle.basics.specs.Bytes.{byte_at}
 use Rattle.basics.specs.Choice.{pick}
-use Rattle.fieldtype.specs.Search.{first_in, first_from, found_inside}
+use Rattle.bytesearch.specs.Search.{first_from, found_inside}
+use Rattle.bytesearch.proofs.Search.{found-inside}
 use Rattle.fieldtype.specs.Types.{brackets, class_type, base_type, type_behind, field_type_at, taken_inside}
 use Rattle.fieldtype.specs.declared.FieldType.{FieldType}
-
--- a place found in a list whose first byte stands at an index
-abbrev Among : Option ℕ → ℕ → ℕ → Type 0
-Among (Some i) at n = (at ≤ i) × (i < at + n)
-Among None at n = Unit
-
-among : (byte : ℕ) (xs : List ℕ) (at : ℕ) → Among (first_in byte xs at) at (length xs)
-unfolding first_in
-among byte [] at = tt
-among byte (x ∷ xs) at = by_test (eqb x byte) (widen (first_in byte xs (at + 1)) (among byte xs (at + 1)))
-  where
-    widen : (found : Option ℕ) → Among found (at + 1) (length xs) → Among found at (length (x ∷ xs))
-    widen (Some i) is = (omega (arith, is.0), omega (arith, is.1))
-    widen None is = tt
-
-    by_test : (t : Bool) → Among (first_in byte xs (at + 1)) at (length (x ∷ xs)) → Among (pick t (Some at) (first_in byte xs (at + 1))) at (length (x ∷ xs))
-    by_test true rest = (omega arith, omega arith)
-    by_test false rest = rest
-
-pub found-inside : (byte : ℕ) (text : List ℕ) (from : ℕ) → found_inside (first_from byte text from) text from
-unfolding first_from
-found-inside byte text from = place (first_in byte (drop from text) from) (among byte (drop from text) from)
-  where
-    place : (found : Option ℕ) → Among found from (length (drop from text)) → found_inside found text from
-    place (Some i) is = (is.0, omega (arith, is.0, is.1, length-drop from text))
-    place None is = tt
 
 module _ (text : List ℕ) (at dims base : ℕ) (passed : base ≡ at + dims) where
   class_inside :

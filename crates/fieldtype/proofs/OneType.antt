@@ -9,7 +9,7 @@ use lib.ListN.{length, drop}
 use borrow.Author.Tests.{le-leb, lt-leb, eq-eqb, ne_eqb}
 use Rattle.basics.specs.Ascii.{ascii}
 use Rattle.basics.specs.Bytes.{byte_at}
-use Rattle.fieldtype.specs.Search.{first_from}
+use Rattle.bytesearch.specs.Search.{first_from}
 use Rattle.fieldtype.specs.Types.{brackets, type_behind, field_type_at}
 
 module _ (text : List ℕ) (at base : ℕ) (passed : base ≡ at + brackets (drop at text)) where

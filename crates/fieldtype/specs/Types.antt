@@ -1,16 +1,15 @@
 -- One type of a descriptor, and types one after the other (document 01, "Descriptors", lenient).
 -- Assumes nothing.
-use Rattle.std.specs.Prelude.{ℕ, zero, suc, ◌+◌, ◌≤◌, ◌<◌, Bool, true, false, List, [], ◌∷◌, eqb, leb, length, drop, Option, Some, None}
+use Rattle.std.specs.Prelude.{ℕ, zero, suc, ◌+◌, ◌≤◌, ◌<◌, Bool, true, false, List, eqb, leb, length, drop, Option, Some, None}
 use Rattle.basics.specs.Ascii.{ascii}
 use Rattle.basics.specs.Bytes.{byte_at}
 use Rattle.basics.specs.Choice.{pick, both}
-use Rattle.fieldtype.specs.Search.{first_from}
+use Rattle.bytesearch.specs.Search.{first_from, run}
 use Rattle.fieldtype.specs.declared.FieldType.{FieldType}
 
 -- the opening brackets that a text starts with: "Any number of dimensions"
-unfoldable pub brackets : List ℕ → ℕ
-brackets [] = 0
-brackets (x ∷ xs) = pick (eqb x 91) (1 + brackets xs) 0
+abbrev pub brackets : List ℕ → ℕ
+brackets xs = run 91 xs
 
 -- a class, named up to a semicolon
 abbrev pub class_type : ℕ → ℕ → Option ℕ → Option FieldType

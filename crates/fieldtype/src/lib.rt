@@ -1,9 +1,10 @@
 // One type of a descriptor, read leniently (document 01, "Descriptors").
 #![tactic(auto)]
 
-ghost use Rattle.std.specs.Prelude.{◌≡◌, ◌+◌, drop};
-ghost use Rattle.fieldtype.specs.Search.{first_from};
-ghost use Rattle.fieldtype.specs.Types.{is_wide, brackets, field_type_at, type_slots};
+ghost use Rattle.std.specs.Prelude.{◌≡◌};
+ghost use Rattle.fieldtype.specs.Types.{is_wide, field_type_at, type_slots};
+
+use bytesearch::{after_run, find_byte};
 
 // One type: its letter, its dimensions, where its class name lies (an empty place where it has none), and the index after it.
 #[derive(Clone, Copy)]
@@ -15,42 +16,11 @@ pub struct FieldType {
     pub next: usize,
 }
 
-// The first place of a byte at or after an index.
-pub fn find_byte(text: &[u8], byte: u8, from: usize) -> Option<usize>
-    ensures { result ≡ first_from byte text.now from }
-{
-    let mut i = from;
-    let found = loop {
-        if text.len() <= i {
-            break None;
-        }
-        if text[i] == byte {
-            break Some(i);
-        }
-        i += 1;
-    };
-    found
-}
-
-// The index after the opening brackets at an index.
-fn after_brackets(text: &[u8], from: usize) -> usize
-    ensures { result ≡ from + brackets (drop from text.now) }
-{
-    let mut at = from;
-    while at < text.len() {
-        if text[at] != b'[' {
-            return at;
-        }
-        at += 1;
-    }
-    at
-}
-
 // The type at an index: any number of dimensions, and a name up to the first semicolon, which may be empty.
 pub fn parse_field_type(text: &[u8], at: usize) -> Option<FieldType>
     ensures { result ≡ field_type_at text.now at }
 {
-    let base = after_brackets(text, at);
+    let base = after_run(text, b'[', at);
     if text.len() <= base {
         return None;
     }

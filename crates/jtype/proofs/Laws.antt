@@ -5,33 +5,17 @@ use Prim.Native.Nat.{ℕ, ◌+◌, ◌-◌, ◌≤◌, ◌<◌}
 use native.Mathlib.Numerals.{add-one}
 use native.Mathlib.Omega.{arith}
 use mathlib.Core.Path.{◌≡◌}
-use mathlib.Core.Bool.{true, false}
 use mathlib.Core.List.{List}
 use lib.Dec.{eqb, ltb}
 use lib.ListN.{length, get_or, drop, drop_of_length-le}
 use lib.Seq.{drop-cons, drop-drop}
 use Rattle.basics.specs.Choice.{pick}
-use Rattle.jtype.specs.OneType.{brackets, unnamed_type, class_type, element, type_in}
+use Rattle.jtype.specs.OneType.{brackets, semicolon_from, unnamed_type, class_type, element, type_in}
 use Rattle.jtype.specs.OneType.{type_at}
-use Rattle.jletter.specs.Letter.{semicolon_from, is_base}
+use Rattle.bytesearch.specs.Search.{first_from}
+use Rattle.jletter.specs.Letter.{is_base}
 use Rattle.refusal.specs.declared.Refusal.TheVariants.{UnexpectedEnd, TooManyDimensions, CloseAfterBracket, ArrayOfVoid}
 use Rattle.refusal.specs.declared.Refusal.TheVariants.{Unrecognised}
-
--- the place after the brackets
-pub brackets_at_end : (text : List ℕ) (at : ℕ) → length text ≤ at → at + brackets (drop at text) ≡ at
-unfolding brackets
-brackets_at_end text at past = rw (drop_of_length-le text past) (omega arith)
-
-pub brackets_stop :
-    (text : List ℕ) (at : ℕ) → at < length text → eqb (get_or text at 0) 91 ≡ false → at + brackets (drop at text) ≡ at
-unfolding brackets
-brackets_stop text at inside other = rw (drop-cons text at 0 inside, other) (omega arith)
-
-pub brackets_more :
-    (text : List ℕ) (at : ℕ) → at < length text → eqb (get_or text at 0) 91 ≡ true →
-    at + brackets (drop at text) ≡ at + 1 + brackets (drop (at + 1) text)
-unfolding brackets
-brackets_more text at inside bracket = rw (drop-cons text at 0 inside, bracket, add-one at) (omega arith)
 
 -- what stands behind brackets
 pub element_at_end : (text : List ℕ) (depth at : ℕ) → length text ≤ at → element depth (drop at text) at ≡ Err UnexpectedEnd
@@ -45,7 +29,7 @@ pub element_next :
     (pick (eqb (get_or text at 0) 41) (pick (eqb depth 0) (Ok None) (Err CloseAfterBracket))
     (pick (eqb (get_or text at 0) 86) (pick (ltb 0 depth) (Err ArrayOfVoid) (unnamed_type (get_or text at 0) depth (at + 1)))
     (pick (is_base (get_or text at 0)) (unnamed_type (get_or text at 0) depth (at + 1)) (Err Unrecognised))))
-unfolding element semicolon_from
+unfolding element first_from
 element_next text depth at inside = rw (drop-cons text at 0 inside, add-one at)
 
 -- a type, by the place behind its brackets

@@ -2,9 +2,10 @@
 -- A text is read from its left, so the first refusal that is met is the answer.
 -- The bytes: 40 `(`, 41 `)`, 59 `;`, 76 `L`, 86 `V`, 91 `[`.
 -- Assumes nothing.
-use Rattle.std.specs.Prelude.{ℕ, suc, ◌+◌, ◌-◌, List, [], ◌∷◌, eqb, ltb, drop, Option, Some, None, Result, Ok, Err}
+use Rattle.std.specs.Prelude.{ℕ, ◌+◌, ◌-◌, List, [], ◌∷◌, eqb, ltb, drop, Option, Some, None, Result, Ok, Err}
 use Rattle.basics.specs.Choice.{pick}
-use Rattle.jletter.specs.Letter.{semicolon_in, is_base}
+use Rattle.bytesearch.specs.Search.{first_in, first_from, run}
+use Rattle.jletter.specs.Letter.{is_base}
 use Rattle.refusal.specs.declared.Refusal.{Refusal}
 use Rattle.refusal.specs.declared.Refusal.TheVariants.{UnexpectedEnd, TooManyDimensions, EmptyClassName}
 use Rattle.refusal.specs.declared.Refusal.TheVariants.{MissingSemicolon, CloseAfterBracket, ArrayOfVoid, Unrecognised}
@@ -15,9 +16,16 @@ abbrev pub Next : Type 0
 Next = Result (Option (TypeRecord × ℕ)) Refusal
 
 -- how many `[` a text begins with
-unfoldable pub brackets : List ℕ → ℕ
-brackets [] = 0
-brackets (x ∷ rest) = pick (eqb x 91) (suc (brackets rest)) 0
+abbrev pub brackets : List ℕ → ℕ
+brackets text = run 91 text
+
+-- the place of the first `;` of a text whose first byte stands at the place given
+abbrev pub semicolon_in : List ℕ → ℕ → Option ℕ
+semicolon_in text at = first_in 59 text at
+
+-- the place of the first `;` at or after a place
+abbrev pub semicolon_from : List ℕ → ℕ → Option ℕ
+semicolon_from text from = first_from 59 text from
 
 -- "base letter, dimensions, name start in the descriptor, name length"
 abbrev pub type_record : ℕ → ℕ → ℕ → ℕ → TypeRecord

@@ -2,11 +2,11 @@
 // Every function takes any text and any place.
 #![tactic(auto)]
 
-ghost use Rattle.std.specs.Prelude.{◌≡◌, ◌+◌, drop};
-ghost use Rattle.jletter.specs.Letter.{semicolon_from};
-ghost use Rattle.jtype.specs.OneType.{brackets, unnamed_type, class_type, element, type_at};
+ghost use Rattle.std.specs.Prelude.{◌≡◌, drop};
+ghost use Rattle.jtype.specs.OneType.{semicolon_from, unnamed_type, class_type, element, type_at};
 
-use jletter::{is_base, semicolon};
+use bytesearch::{after_run, find_byte};
+use jletter::is_base;
 use refusal::Refusal;
 
 // A type that was read: its base letter, its dimensions, and where its class name stands in the text (0 and 0 without one).
@@ -27,22 +27,6 @@ impl TypeRecord {
 // What reading a type at a place finds: the type and the place after it, or none at a `)`, which ends the parameters.
 pub type Next = Result<Option<(TypeRecord, usize)>, Refusal>;
 
-// The place after the `[` that stand in a row from at on.
-fn after_brackets(text: &[u8], at: usize) -> usize
-    ensures { result ≡ at + brackets (drop at text.now) }
-{
-    let mut place = at;
-    loop {
-        if text.len() <= place {
-            return place;
-        }
-        if text[place] != b'[' {
-            return place;
-        }
-        place += 1;
-    }
-}
-
 // A type without a name, the place after it being next.
 fn unnamed(letter: u8, depth: usize, next: usize) -> Next
     ensures { result ≡ unnamed_type letter depth next }
@@ -60,7 +44,7 @@ fn unnamed(letter: u8, depth: usize, next: usize) -> Next
 fn class_type(text: &[u8], depth: usize, from: usize) -> Next
     ensures { result ≡ class_type depth from (semicolon_from text.now from) }
 {
-    let Some(end) = semicolon(text, from) else {
+    let Some(end) = find_byte(text, b';', from) else {
         return Err(Refusal::MissingSemicolon);
     };
     if end == from {
@@ -108,7 +92,7 @@ fn element_at(text: &[u8], depth: usize, at: usize) -> Next
 pub fn get_next(text: &[u8], at: usize) -> Next
     ensures { result ≡ type_at text.now at }
 {
-    let place = after_brackets(text, at);
+    let place = after_run(text, b'[', at);
     let depth = place - at;
     if 255 < depth {
         return Err(Refusal::TooManyDimensions);

@@ -7,7 +7,7 @@ use Rattle.basics.specs.Ascii.{ascii}
 use Rattle.basics.specs.Choice.{pick, both}
 use Rattle.tables.specs.LocalRecord.{records_in}
 use Rattle.descriptor.specs.Readers.{parameter_at}
-use Rattle.fieldtype.specs.Search.{first_from}
+use Rattle.bytesearch.specs.Search.{first_from}
 use Rattle.text.specs.Decimal.{decimal}
 use Rattle.search.specs.Search.{first_match}
 use Rattle.search.specs.declared.NamePlace.{NamePlace}

@@ -21,7 +21,7 @@ pub fn is_instance(flags: usize) -> bool
 fn signature_parameter(signature: &[u8], instance: bool, slot: usize) -> Option<usize>
     ensures { result ≡ signature_parameter signature.now instance slot }
 {
-    let colon = fieldtype::find_byte(signature, b':', 0)?;
+    let colon = bytesearch::find_byte(signature, b':', 0)?;
     let from = colon + 1;
     descriptor::parameter_at(&signature[from..], instance, slot)
 }

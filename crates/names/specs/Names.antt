@@ -4,7 +4,7 @@ use Rattle.std.specs.Prelude.{ℕ, zero, suc, ◌-◌, List, [], ◌∷◌, ◌+
 use Rattle.basics.specs.Ascii.{ascii}
 use Rattle.basics.specs.Choice.{pick}
 use Rattle.classname.specs.ClassName.{class_name}
-use Rattle.fieldtype.specs.Search.{first_from}
+use Rattle.bytesearch.specs.Search.{first_from}
 use Rattle.fieldtype.specs.Types.{Types, over, unread, one, types_of}
 use Rattle.fieldtype.specs.declared.FieldType.{FieldType}
 

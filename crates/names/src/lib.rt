@@ -65,7 +65,7 @@ fn base_row(k: usize) -> BaseName
 fn put_base_name(out: &mut [u8], letter: u8) -> usize
     ensures { Written 0 (base_name letter) out.old result out.new }
 {
-    let Some(k) = fieldtype::find_byte(b"BCDFIJSZ", letter, 0) else {
+    let Some(k) = bytesearch::find_byte(b"BCDFIJSZ", letter, 0) else {
         return 0;
     };
     let row = base_row(k);

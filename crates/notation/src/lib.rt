@@ -12,8 +12,8 @@
 ghost use Rattle.std.specs.Prelude.{◌≤◌, ◌<◌, ◌≡◌, take};
 ghost use Rattle.notation.specs.Parts.{part_to, behind, is_row};
 
+use bytesearch::find_byte;
 use check::same;
-use fieldtype::find_byte;
 use items::part_at;
 use std::io::Read;
 use std::rt::Files;

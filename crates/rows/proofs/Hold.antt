@@ -12,14 +12,14 @@ use Rattle.branch.specs.Branch.{branch_of}
 use Rattle.greatest.specs.Greatest.{target}
 use Rattle.leader.specs.Targets.{entry_targets, switch_targets, leaders_at}
 use Rattle.descriptor.specs.Readers.{slots_of, judged, parameters, starting_at, parameter_at, closing, slots_behind, return_slots, field_slots}
-use Rattle.fieldtype.specs.Search.{first_in, first_from}
-use Rattle.fieldtype.specs.Types.{brackets, type_behind, field_type_at, type_slots, types_from, types_at, types_of}
+use Rattle.bytesearch.specs.Search.{first_in, first_from, run}
+use Rattle.fieldtype.specs.Types.{type_behind, field_type_at, type_slots, types_from, types_at, types_of}
 use Rattle.text.specs.Decimal.{digits, decimal}
 use Rattle.text.specs.Writing.{over}
 use Rattle.classname.specs.ClassName.{dot_of, dotted, class_name}
 use Rattle.names.specs.Names.{base_names, base_name, element_name, bracket_pairs, type_name, type_names, commaed, joined, parameter_names}
 use Rattle.jletter.specs.Letter.{is_base}
-use Rattle.jtype.specs.OneType.{brackets as strict_brackets, unnamed_type, element, type_in, type_at}
+use Rattle.jtype.specs.OneType.{unnamed_type, element, type_in, type_at}
 use Rattle.refusal.specs.Refusal.{number_of}
 use Rattle.jdescriptor.specs.Answer.{answer}
 use Rattle.judging.specs.Judged.{numbered}
@@ -53,9 +53,9 @@ pub rows_hold : AllHold rows
 unfolding rows
     length_of document_length within bytes_of format_of wide_bytes table_bytes table_entries lookup_bytes lookup_pairs i16_at i32_at lifted u32_at u16_at
     block_leader answered instructions scan_from scan_count leaders_of leaders_at branch_of target entry_targets switch_targets greatest up_to
-    parameters judged slots_of types_of types_at types_from field_type_at type_behind brackets first_from first_in type_slots return_slots closing slots_behind
+    parameters judged slots_of types_of types_at types_from field_type_at type_behind run first_from first_in type_slots return_slots closing slots_behind
     parameter_names joined commaed type_names type_name element_name base_name base_names bracket_pairs class_name dotted dot_of
-    numbered number_of answer type_reading method_reading parameters_at return_at type_at type_in strict_brackets element is_base unnamed_type
+    numbered number_of answer type_reading method_reading parameters_at return_at type_at type_in element is_base unnamed_type
     reported report_in reported_by report_worded reported_worded case_of places_in tables_at text_at number_at number_from run_by members_then records_then parts_of
     said_in decoded depth_of rule_of action_of constructs lookup_in member_found member_at text_part after_text class_of name_of
     descriptor_of traced block_walk_in completed completed_from walk walk_from step row_of added_row widened_row full_row_of field_slots fixed_length slot_from

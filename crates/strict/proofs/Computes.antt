@@ -13,8 +13,9 @@ use borrow.Author.Tests.{lt-ltb, le-ltb, eq-eqb, ne_eqb}
 use Rattle.jvms.specs.Descriptor.{BaseType, byte, char, double, float, int, long, short, boolean, letter}
 use Rattle.jvms.specs.Descriptor.{FieldType, base, class, array, ReturnType, void, typed, render, render_return, dimensions}
 use Rattle.jvms.specs.Descriptor.{NoSemicolon, ClassName, Named, WellFormed, WellFormedReturn}
-use Rattle.jletter.specs.Letter.{semicolon_in, is_base}
-use Rattle.jtype.specs.OneType.{brackets, type_record, unnamed_type, class_type, element, type_in}
+use Rattle.bytesearch.specs.Search.{first_in, run}
+use Rattle.jletter.specs.Letter.{is_base}
+use Rattle.jtype.specs.OneType.{brackets, semicolon_in, type_record, unnamed_type, class_type, element, type_in}
 use Rattle.refusal.specs.declared.Refusal.{Refusal}
 use Rattle.refusal.specs.declared.Refusal.TheVariants.{UnexpectedEnd, TooManyDimensions, EmptyClassName, MissingSemicolon, CloseAfterBracket, ArrayOfVoid, Unrecognised}
 use Rattle.refusal.specs.declared.Refusal.TheVariants.{LoneClose, TrailingAfterType, MissingOpening, VoidParameter, MissingReturn, TrailingAfterMethod, NoRoom}
@@ -24,7 +25,7 @@ use Rattle.strict.specs.Records.{letter_of, name_start, name_length, record_of, 
 -- ---- behind brackets
 
 brackets_of : (depth : ℕ) (rest : List ℕ) → brackets (bracketed depth rest) ≡ depth + brackets rest
-unfolding brackets
+unfolding run
 brackets_of zero rest = sym (zero-add (brackets rest))
 brackets_of (suc depth) rest = let more = brackets_of depth rest in omega arith
 
@@ -34,7 +35,7 @@ Stops [] = Unit {0}
 Stops (x ∷ rest) = x ≡ 91 → ⊥
 
 no_brackets : (rest : List ℕ) → Stops rest → brackets rest ≡ 0
-unfolding brackets
+unfolding run
 no_brackets [] h = refl
 no_brackets (x ∷ rest) h = rw (ne_eqb x 91 h)
 
@@ -50,12 +51,12 @@ behind depth rest at few stops =
 -- ---- names
 
 no_semicolon : (name : List ℕ) (at : ℕ) → NoSemicolon name → semicolon_in name at ≡ None
-unfolding semicolon_in
+unfolding first_in
 no_semicolon [] at h = refl
 no_semicolon (x ∷ name) at h = rw (ne_eqb x 59 h.0) (no_semicolon name (at + 1) h.1)
 
 semicolon_behind : (name rest : List ℕ) (at : ℕ) → NoSemicolon name → semicolon_in (name ++ (59 ∷ rest)) at ≡ Some (at + length name)
-unfolding semicolon_in
+unfolding first_in
 semicolon_behind [] rest at h = rw add-zero
 semicolon_behind (x ∷ name) rest at h =
     let far : at + 1 + length name ≡ at + suc (length name) = omega arith in
@@ -158,12 +159,12 @@ reads_field t rest at w =
 pub reads_return :
     (t : ReturnType) (rest : List ℕ) (at : ℕ) → WellFormedReturn t →
     type_in (render_return t ++ rest) at ≡ Ok (Some (return_record at t, at + length (render_return t)))
-unfolding render_return type_in brackets element unnamed_type
+unfolding render_return type_in run element unnamed_type
 reads_return void rest at w = rw add-zero
 reads_return (typed t) rest at w = reads_field t rest at w
 
 pub reads_close : (rest : List ℕ) (at : ℕ) → type_in (41 ∷ rest) at ≡ Ok None
-unfolding type_in brackets element
+unfolding type_in run element
 reads_close rest at = refl
 
 -- ---- a wrong type

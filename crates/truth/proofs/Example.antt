@@ -19,8 +19,8 @@ use Rattle.leader.specs.Scan.{scan_from, instructions, scan_count, leaders_of, a
 use Rattle.branch.specs.Branch.{branch_of}
 use Rattle.leader.specs.Targets.{leaders_at}
 use Rattle.descriptor.specs.Readers.{slots_of, judged, parameters, closing, slots_behind, return_slots, field_slots}
-use Rattle.fieldtype.specs.Search.{first_in, first_from}
-use Rattle.fieldtype.specs.Types.{brackets, type_behind, field_type_at, type_slots, types_from, types_at, types_of}
+use Rattle.bytesearch.specs.Search.{first_in, first_from, run}
+use Rattle.fieldtype.specs.Types.{type_behind, field_type_at, type_slots, types_from, types_at, types_of}
 use Rattle.number.specs.Number.{number_from, number_at}
 use Rattle.items.specs.Text.{text_at, text_part, after_text, descriptor_of}
 use Rattle.tables.specs.Layout.{run_by}
@@ -105,7 +105,7 @@ unfolding block_leader instructions scan_from scan_count leaders_of leaders_at b
 leads = refl
 
 walks : block_walk worked.code members 2 0 14 4 ≡ fits (done (1 ∷ 851970 ∷ []) 10)
-unfolding block_walk_in completed completed_from walk walk_from step row_of fixed_length format_of u16_at lookup_in member_found member_at number_at number_from run_by text_at text_part after_text descriptor_of slots_of judged parameters closing slots_behind return_slots field_slots first_in first_from brackets type_behind field_type_at type_slots types_from types_at types_of
+unfolding block_walk_in completed completed_from walk walk_from step row_of fixed_length format_of u16_at lookup_in member_found member_at number_at number_from run_by text_at text_part after_text descriptor_of slots_of judged parameters closing slots_behind return_slots field_slots first_in first_from run type_behind field_type_at type_slots types_from types_at types_of
 walks = refl
 
 pub premises_met : PremisesMet worked
@@ -123,7 +123,7 @@ premises_met =
     }
 
 deep : depth_of (lookup_in members 2) worked.code 14 ≡ at 1
-unfolding depth_of rule_of u16_at lookup_in member_found member_at number_at number_from run_by text_at text_part after_text descriptor_of slots_of judged parameters first_in first_from brackets type_behind field_type_at type_slots types_from types_at types_of
+unfolding depth_of rule_of u16_at lookup_in member_found member_at number_at number_from run_by text_at text_part after_text descriptor_of slots_of judged parameters first_in first_from run type_behind field_type_at type_slots types_from types_at types_of
 deep = refl
 
 pub named_rightly : NamedRightly worked 0
@@ -136,7 +136,7 @@ unfolding block_leader instructions scan_from scan_count leaders_of leaders_at b
 full_leads = refl
 
 full_walks : block_walk_in Full full_worked.code members 2 0 11 6 ≡ fits (done (1 ∷ 0 ∷ 0 ∷ []) 9)
-unfolding block_walk_in completed completed_from walk walk_from step row_of added_row widened_row full_row_of fixed_length format_of u16_at lookup_in member_found member_at number_at number_from run_by text_at text_part after_text descriptor_of field_slots brackets type_behind field_type_at type_slots
+unfolding block_walk_in completed completed_from walk walk_from step row_of added_row widened_row full_row_of fixed_length format_of u16_at lookup_in member_found member_at number_at number_from run_by text_at text_part after_text descriptor_of field_slots run type_behind field_type_at type_slots
 full_walks = refl
 
 pub full_premises_met : PremisesMet full_worked
@@ -154,7 +154,7 @@ full_premises_met =
     }
 
 full_deep : depth_of (lookup_in members 2) full_worked.code 11 ≡ at 2
-unfolding depth_of rule_of u16_at lookup_in member_found member_at number_at number_from run_by text_at text_part after_text descriptor_of field_slots brackets type_behind field_type_at type_slots
+unfolding depth_of rule_of u16_at lookup_in member_found member_at number_at number_from run_by text_at text_part after_text descriptor_of field_slots run type_behind field_type_at type_slots
 full_deep = refl
 
 pub full_named_rightly : NamedRightly full_worked 0

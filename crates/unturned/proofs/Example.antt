@@ -5,8 +5,8 @@ use mathlib.Core.Bool.{true}
 use mathlib.Core.List.{List, ◌∷◌, ◌++◌}
 use mathlib.Core.Path.{◌≡◌, refl}
 use Rattle.basics.specs.Ascii.{ascii}
-use Rattle.fieldtype.specs.Search.{first_in, first_from}
-use Rattle.fieldtype.specs.Types.{brackets, type_behind, field_type_at, type_slots, types_from, types_at, types_of}
+use Rattle.bytesearch.specs.Search.{first_in, first_from, run}
+use Rattle.fieldtype.specs.Types.{type_behind, field_type_at, type_slots, types_from, types_at, types_of}
 use Rattle.descriptor.specs.Readers.{slots_of, judged, parameters, closing, slots_behind, return_slots}
 use Rattle.descriptor.specs.declared.Params.TheVariants.{Read}
 use Rattle.descriptor.specs.declared.Slots.TheVariants.{Slots as SlotsOf}
@@ -20,9 +20,9 @@ unfolding size_by size_of right_by is_modified
 judged_right = refl
 
 pub as_it_is : (parameters text ≡ Read 3 6) × (return_slots text ≡ SlotsOf 0)
-unfolding first_in first_from brackets type_behind field_type_at type_slots types_from types_at types_of slots_of judged parameters closing slots_behind return_slots
+unfolding first_in first_from run type_behind field_type_at type_slots types_from types_at types_of slots_of judged parameters closing slots_behind return_slots
 as_it_is = (refl, refl)
 
 pub as_turned : (parameters (turned text) ≡ Read 3 5) × (return_slots (turned text) ≡ SlotsOf 0)
-unfolding first_in first_from brackets type_behind field_type_at type_slots types_from types_at types_of slots_of judged parameters closing slots_behind return_slots turn_by turn_of turned_by turned
+unfolding first_in first_from run type_behind field_type_at type_slots types_from types_at types_of slots_of judged parameters closing slots_behind return_slots turn_by turn_of turned_by turned
 as_turned = (refl, refl)

@@ -14,7 +14,7 @@ use borrow.Author.Tests.{le-leb, lt-leb}
 use Rattle.basics.specs.Ascii.{ascii}
 use Rattle.basics.specs.Bytes.{byte_at}
 use Rattle.basics.specs.Choice.{pick}
-use Rattle.fieldtype.specs.Search.{first_in, first_from}
+use Rattle.bytesearch.specs.Search.{first_in, first_from, run}
 use Rattle.fieldtype.specs.Types.{brackets, class_type, base_type, type_behind, field_type_at, type_slots}
 use Rattle.fieldtype.specs.declared.FieldType.{FieldType}
 use Rattle.unturned.proofs.Alike.{is_other, no_other, Strangers, only_one, one_more, Alike, both_end, same_byte, strange_runs}
@@ -46,11 +46,11 @@ record Opened (xs ys : List ℕ) : Type 0 where
   behind : Alike (drop dims xs) (drop dims ys)
 
 no_bracket : {xs : List ℕ} → Headed xs → brackets xs ≡ 0
-unfolding brackets
+unfolding run
 no_bracket h = rw (h.is, is_other h.strange 91 tt)
 
 opened : {xs ys : List ℕ} → Alike xs ys → Opened xs ys
-unfolding brackets
+unfolding run
 opened both_end = record { dims = 0; first = refl; second = refl; behind = both_end }
 opened (same_byte {x} {text} {turned} alike) = by_byte (eqb x 91) refl (opened alike)
   where

@@ -6,8 +6,8 @@ use borrow.Author.Rules.{rules}
 use mathlib.Core.Path.{sym, subst}
 use lib.ListN.{length}
 use Rattle.std.specs.Prelude.{Option}
-use Rattle.fieldtype.specs.Search.{found_inside}
-use Rattle.fieldtype.proofs.Bounds.{found-inside}
+use Rattle.bytesearch.specs.Search.{found_inside}
+use Rattle.bytesearch.proofs.Search.{found-inside}
 use Rattle.fieldtype.proofs.OneType.{nothing_behind, class_unended, class_ended, no_letter, base_letter}
 use Rattle.fieldtype.proofs.parse_field_type.Goals as goal
 use Rattle.fieldtype.proofs.parse_field_type.Goals.{In_ok-to}
@@ -21,10 +21,10 @@ returns-in_err-to c = search (rules, class_unended)
 -- the semicolon lies in the text, behind the letter
 semicolon :
     (c : In_ok-to) →
-    (c.after_brackets-base.result + 1 ≤ c.in_ok-to.to) × (c.in_ok-to.to < length c.args.text.now)
+    (c.after_run-base.result + 1 ≤ c.in_ok-to.to) × (c.in_ok-to.to < length c.args.text.now)
 semicolon c =
     let a = c.args in
-    let from = c.after_brackets-base.result + 1 in
+    let from = c.after_run-base.result + 1 in
     subst (λ (r : Option ℕ). found_inside r a.text.now from) (sym c.in_ok-to.ensures) (found-inside 59 a.text.now from)
 
 pub overflow_add-next : goal.overflow_add-next

@@ -8,9 +8,9 @@ use mathlib.Core.Path.{◌≡◌, ◌∙◌, sym, subst, ap}
 use lib.ListN.{length, take, drop, length-drop}
 use lib.Seq.{take_all}
 use Rattle.descriptor.specs.Readers.{parameter_at}
-use Rattle.fieldtype.specs.Search.{first_from, found_inside}
+use Rattle.bytesearch.specs.Search.{first_from, found_inside}
 use Rattle.locals.specs.Name.{signature_parameter}
-use Rattle.fieldtype.proofs.Bounds.{found-inside}
+use Rattle.bytesearch.proofs.Search.{found-inside}
 use Rattle.locals.proofs.signature_parameter.Goals as goal
 use Rattle.locals.proofs.signature_parameter.Goals.{In_ok-colon}
 

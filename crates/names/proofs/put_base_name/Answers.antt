@@ -5,9 +5,9 @@ use Prim.Native.Nat.{ℕ, ◌<◌}
 use native.Mathlib.Omega.{arith}
 use mathlib.Core.Path.{◌≡◌, ◌∙◌, sym, subst}
 use Rattle.basics.specs.Ascii.{ascii}
-use Rattle.fieldtype.specs.Search.{first_from, found_inside}
+use Rattle.bytesearch.specs.Search.{first_from, found_inside}
 use Rattle.names.specs.Names.{base_name}
-use Rattle.fieldtype.proofs.Bounds.{found-inside}
+use Rattle.bytesearch.proofs.Search.{found-inside}
 use Rattle.text.proofs.Writing.{written_none}
 use Rattle.names.proofs.put_base_name.Goals as goal
 use Rattle.names.proofs.put_base_name.Goals.{In-Some}

@@ -4,8 +4,8 @@ use Prim.Native.Nat.{ℕ}
 use Rattle.std.specs.Prelude.{Option, Some}
 use native.Mathlib.Omega.{arith}
 use mathlib.Core.Path.{◌≡◌, ◌∙◌, sym, subst}
-use Rattle.fieldtype.specs.Search.{first_from, found_inside}
-use Rattle.fieldtype.proofs.Bounds.{found-inside}
+use Rattle.bytesearch.specs.Search.{first_from, found_inside}
+use Rattle.bytesearch.proofs.Search.{found-inside}
 use Rattle.notation.specs.Parts.{part_to}
 use Rattle.notation.proofs.part_to.Goals as goal
 use Rattle.notation.proofs.part_to.Goals.{In-Some}
