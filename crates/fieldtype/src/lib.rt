@@ -59,6 +59,7 @@ pub fn is_wide(letter: u8) -> bool
 }
 
 // The slots of a type.
+#[tactic(auto, unfolding(crate::specs::Types::type_slots))]
 pub fn type_slots(t: FieldType) -> usize
     ensures { result ≡ type_slots t }
 {

@@ -5,6 +5,7 @@ ghost use Rattle.std.specs.Prelude.{◌≡◌};
 ghost use Rattle.jletter.specs.Letter.{is_base};
 
 // One of the eight base letters.
+#[tactic(auto, unfolding(crate::specs::Letter::is_base))]
 pub fn is_base(letter: u8) -> bool
     ensures { result ≡ is_base letter }
 {

@@ -28,6 +28,7 @@ impl TypeRecord {
 pub type Next = Result<Option<(TypeRecord, usize)>, Refusal>;
 
 // A type without a name, the place after it being next.
+#[tactic(auto, unfolding(crate::specs::OneType::unnamed_type))]
 fn unnamed(letter: u8, depth: usize, next: usize) -> Next
     ensures { result ≡ unnamed_type letter depth next }
 {
@@ -41,6 +42,7 @@ fn unnamed(letter: u8, depth: usize, next: usize) -> Next
 }
 
 // A class type behind depth brackets, whose name starts at from.
+#[tactic(auto, unfolding(crate::specs::OneType::class_type))]
 fn class_type(text: &[u8], depth: usize, from: usize) -> Next
     ensures { result ≡ class_type depth from (semicolon_from text.now from) }
 {
@@ -60,6 +62,7 @@ fn class_type(text: &[u8], depth: usize, from: usize) -> Next
 }
 
 // What stands at a place behind depth brackets.
+#[tactic(auto, using(crate::proofs::Laws::element_at_end, crate::proofs::Laws::element_next))]
 fn element_at(text: &[u8], depth: usize, at: usize) -> Next
     ensures { result ≡ element depth (drop at text.now) at }
 {
