@@ -18,11 +18,9 @@ fn parse(method: bool, text: &[u8], numbers: &mut [u64]) -> Result<usize, Refusa
 // Numbers, each behind a space.
 fn put_numbers(out: &mut [u8], numbers: &[u64]) -> usize {
     let mut end = 0;
-    let mut i = 0;
-    while i < numbers.len() {
+    for n in numbers {
         let space = put_at(out, end, b" ");
-        end = put_decimal_at(out, space, numbers[i] as usize);
-        i += 1;
+        end = put_decimal_at(out, space, *n as usize);
     }
     end
 }
@@ -58,9 +56,7 @@ fn number_of(answer: Result<usize, Refusal>) -> u64 {
 // Writes between two places the letters that stand at a number in the list of all such texts over eight letters.
 fn spell(text: &mut [u8], first: usize, end: usize, number: usize) {
     let mut rest = number;
-    let mut i = end;
-    while first < i {
-        i -= 1;
+    for i in (first..end).rev() {
         put_at(text, i, &[LETTERS[rest % 8]]);
         rest /= 8;
     }
@@ -71,13 +67,7 @@ fn stir(h: u64, x: u64) -> u64 {
 }
 
 fn stir_all(h: u64, numbers: &[u64]) -> u64 {
-    let mut mixed = h;
-    let mut i = 0;
-    while i < numbers.len() {
-        mixed = stir(mixed, numbers[i]);
-        i += 1;
-    }
-    mixed
+    numbers.iter().fold(h, |mixed, x| stir(mixed, *x))
 }
 
 // What a reader answers and writes, stirred in.
@@ -90,12 +80,10 @@ fn stir_one(method: bool, h: u64, text: &[u8]) -> u64 {
 // One number for what both readers answer and write on so many texts with the same first bytes.
 fn stirred(text: &mut [u8], first: usize, end: usize, count: usize) -> u64 {
     let mut mixed: u64 = 0;
-    let mut k = 0;
-    while k < count {
+    for k in 0..count {
         spell(text, first, end, k);
         let types = stir_one(false, mixed, part_at(text, 0, end));
         mixed = stir_one(true, types, part_at(text, 0, end));
-        k += 1;
     }
     mixed
 }
