@@ -1,8 +1,6 @@
 -- An answer is told by its numbers.
 -- Assumes nothing.
 use Rattle.std.specs.Prelude.{Result, Ok, Err}
-use Prim.Native.Nat.{ℕ}
-use native.Mathlib.Omega.{arith}
 use mathlib.Core.Path.{◌≡◌, ap₂}
 use Rattle.leader.specs.Scan.{numbered, led_to, stopped_at}
 use Rattle.leader.specs.declared.Scanned.{Scanned}

@@ -10,7 +10,7 @@ ghost use Rattle.leader.specs.Scan.{block_leader};
 use branch::{Branch, branch_of};
 use greatest::{aim, raise};
 
-// What a scan came to, and how many instructions stand before it or are in the code.
+// What a scan comes to: the index of a leader, or of an instruction that has no length, and how many instructions are counted.
 #[derive(Clone, Copy)]
 pub struct Scanned {
     pub at: usize,
