@@ -35,6 +35,7 @@ fn operands_at(pc: usize) -> usize
     pc + 1 + pad(pc + 1)
 }
 
+#[tactic(auto, unfolding(crate::specs::Length::wide_bytes))]
 fn wide_bytes(code: &[u8], pc: usize) -> usize
     requires { pc < length code.now }
     ensures { result ≡ wide_bytes code.now pc }
@@ -42,6 +43,7 @@ fn wide_bytes(code: &[u8], pc: usize) -> usize
     wide_by(byte_at(code, pc + 1)) as usize
 }
 
+#[tactic(auto, unfolding(crate::specs::Length::table_bytes, crate::specs::Length::table_entries))]
 fn table_bytes(code: &[u8], pc: usize) -> usize
     requires { pc < length code.now }
     ensures { result ≡ table_bytes code.now pc }
@@ -52,6 +54,7 @@ fn table_bytes(code: &[u8], pc: usize) -> usize
     at - pc + 12 + 4 * (high + 1).saturating_sub(low)
 }
 
+#[tactic(auto, unfolding(crate::specs::Length::lookup_bytes, crate::specs::Length::lookup_pairs))]
 fn lookup_bytes(code: &[u8], pc: usize) -> usize
     requires { pc < length code.now }
     ensures { result ≡ lookup_bytes code.now pc }
@@ -76,6 +79,7 @@ fn bytes_of(code: &[u8], pc: usize) -> usize
 }
 
 // A length of so many bytes from pc on, or none where they pass the end.
+#[tactic(auto, unfolding(crate::specs::Length::within))]
 fn within(code: &[u8], pc: usize, bytes: usize) -> Result<usize, Unmeasured>
     requires { pc < length code.now }
     ensures { result ≡ within code.now pc bytes }

@@ -14,6 +14,7 @@ pub fn byte_at(code: &[u8], at: usize) -> u8
 }
 
 // The two bytes at an index as a number, most significant first.
+#[tactic(auto, using(basics::proofs::Bytes::u16_past), unfolding(basics::specs::Bytes::u16_at))]
 pub fn read_u16(code: &[u8], at: usize) -> usize
     ensures { (result ≡ u16_at code.now at) × (result < 2 ^ 16) }
 {
@@ -24,6 +25,7 @@ pub fn read_u16(code: &[u8], at: usize) -> usize
 }
 
 // The four bytes at an index as a number, most significant first.
+#[tactic(auto, using(basics::proofs::Bytes::u32_past), unfolding(basics::specs::Bytes::u32_at))]
 pub fn read_u32(code: &[u8], at: usize) -> usize
     ensures { (result ≡ u32_at code.now at) × (result < 2 ^ 32) }
 {
@@ -34,6 +36,7 @@ pub fn read_u32(code: &[u8], at: usize) -> usize
 }
 
 // A number below 2 * half, read as two's complement and moved up by half.
+#[tactic(auto, unfolding(crate::specs::Signed::lifted))]
 fn lift(half: usize, v: usize) -> usize
     requires { (half ≤ 2 ^ 31) × (v < 2 * half) }
     ensures { (result ≡ lifted half v) × (result < 2 * half) }
@@ -42,6 +45,7 @@ fn lift(half: usize, v: usize) -> usize
 }
 
 // The signed 16-bit number at an index, plus 2^15.
+#[tactic(auto, unfolding(crate::specs::Signed::i16_at))]
 pub fn read_i16(code: &[u8], at: usize) -> usize
     ensures { (result ≡ i16_at code.now at) × (result < 2 ^ 16) }
 {
@@ -49,6 +53,7 @@ pub fn read_i16(code: &[u8], at: usize) -> usize
 }
 
 // The signed 32-bit number at an index, plus 2^31.
+#[tactic(auto, unfolding(crate::specs::Signed::i32_at))]
 pub fn read_i32(code: &[u8], at: usize) -> usize
     ensures { (result ≡ i32_at code.now at) × (result < 2 ^ 32) }
 {
