@@ -1,7 +1,7 @@
 -- What is right behind an item of a format that is right, by the answer of the item's reader.
 -- Assumes nothing.
 use Rattle.std.specs.Prelude.{Ok, Err, Some, None}
-use Prim.Native.Nat.{ℕ, zero, suc, ◌+◌, ◌-◌, ◌≤◌, ◌<◌}
+use Prim.Native.Nat.{ℕ, zero, suc, ◌+◌, ◌≤◌, ◌<◌}
 use native.Mathlib.Omega.{arith}
 use mathlib.Core.Path.{◌≡◌, refl, ◌∙◌, sym}
 use mathlib.Core.Bool.{Bool, true, false}
@@ -128,9 +128,9 @@ two_below limit file at are is = omega (arith, u16_below file are at, two_bytes 
 -- ---- a format that stands so many times: a turn of a loop over it
 
 module _ {A : Type 0} (one : Format A) (file : List ℕ) (at : ℕ) {xs : List A} {end : ℕ} where
-  pub some_left : (left : ℕ) → 0 < left → read_by (times left one) file at ≡ right xs end → FirstOf one (left - 1) file at xs end
-  some_left zero some is = absurd (omega arith)
-  some_left (suc n) some is = let less : suc n - 1 ≡ n = omega arith in rw less (first_of one n file at is)
+  pub some_left :
+      (left after : ℕ) → left ≡ suc after → read_by (times left one) file at ≡ right xs end → FirstOf one after file at xs end
+  some_left left after some is = first_of one after file at (rw some at is)
 
   pub none_left : (left : ℕ) → left ≤ 0 → read_by (times left one) file at ≡ right xs end → xs ≡ []
   unfolding times

@@ -55,8 +55,7 @@ fn search_records(
 {
     let limit = records.stop;
     let mut at = records.from;
-    let mut left = records.count;
-    while 0 < left {
+    for _ in 0..records.count {
         let Ok(local) = read_local(file, table, at, limit) else {
             return None;
         };
@@ -68,7 +67,6 @@ fn search_records(
             });
         }
         at = local.next;
-        left -= 1;
     }
     None
 }
@@ -119,8 +117,7 @@ fn search_attributes(
         result ≡ first_local (joined tables) slot load }
 {
     let mut at = attributes.from;
-    let mut left = attributes.count;
-    while 0 < left {
+    for _ in 0..attributes.count {
         let records = records_at(file, table, at, limit);
         match search_records(file, table, records, slot, load) {
             Some(found) => {
@@ -129,7 +126,6 @@ fn search_attributes(
             None => {}
         }
         at = records.stop;
-        left -= 1;
     }
     None
 }
@@ -190,13 +186,11 @@ fn count_attributes(
         result ≡ length (joined tables) }
 {
     let mut at = attributes.from;
-    let mut left = attributes.count;
     let mut total = 0;
-    while 0 < left {
+    for _ in 0..attributes.count {
         let records = records_at(file, table, at, limit);
         total += records.count;
         at = records.stop;
-        left -= 1;
     }
     total
 }

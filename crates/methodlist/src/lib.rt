@@ -105,16 +105,14 @@ fn fill_methods(file: &[u8], table: &[usize], from: usize, count: usize, numbers
         numbers.new ≡ overlaid 0 (listed (entry_by file.now table.now) methods) numbers.old }
 {
     let mut at = from;
-    let mut left = count;
     let mut k = 0;
-    while 0 < left {
+    for _ in 0..count {
         let Ok(method) = read_method(file, table, at, file.len()) else {
             return;
         };
         put_method(file, table, method, numbers, k);
         k += 8;
         at = method.next;
-        left -= 1;
     }
 }
 

@@ -139,11 +139,7 @@ fn read_entry(file: &[u8], at: usize, left: usize) -> Result<usize, usize>
 fn clear(table: &mut [usize])
     ensures { table.new ≡ replicate (length table.old) 0 }
 {
-    let mut i = 0;
-    while i < table.len() {
-        table[i] = 0;
-        i += 1;
-    }
+    table.fill(0);
 }
 
 // Keeps a place, where the table has its cell.
@@ -163,9 +159,8 @@ pub fn read_pool(file: &[u8], count: usize, table: &mut [usize]) -> Result<usize
 {
     clear(table);
     let mut at: usize = 10;
-    let mut number: usize = 1;
     let mut behind_wide = false;
-    while number < count {
+    for number in 1..count {
         if behind_wide {
             behind_wide = false;
         } else {
@@ -174,7 +169,6 @@ pub fn read_pool(file: &[u8], count: usize, table: &mut [usize]) -> Result<usize
             behind_wide = is_wide(byte_at(file, at));
             at = next;
         }
-        number += 1;
     }
     Ok(at)
 }

@@ -14,30 +14,32 @@ use Rattle.entries.specs.Entries.{names_by}
 use Rattle.localtables.proofs.Behind.{some_left, none_left}
 use Rattle.localtables.proofs.count_attributes.Goals as goal
 
-pub loop-left-init : goal.loop-left-init
-loop-left-init c = (omega arith, λ tables end is. (tables, is, omega arith))
+pub loop-init : goal.loop-init
+loop-init c =
+    let all : c.args.attributes.count - 0 ≡ c.args.attributes.count = omega arith in
+    (omega arith, λ tables end is. (tables, rw all is, omega arith))
 
 pub overflow_add-total : goal.overflow_add-total
 overflow_add-total c =
     let few : c.args.attributes.count < 65536 = c.requires in
-    omega (arith, few, c.loop-left.invariant.0, c.records_at-records.ensures.0)
+    omega (arith, few, c.loop.invariant.0, c.records_at-records.ensures.0)
 
-pub loop-left-preserved : goal.loop-left-preserved
+pub loop-preserved : goal.loop-preserved
 unfolding joined
-loop-left-preserved c =
+loop-preserved c =
     let a = c.args in
-    let l = c.loop-left in
+    let l = c.loop in
     let records = c.records_at-records.result in (
-      omega (arith, l.invariant.0, c.records_at-records.ensures.0, c.loop-left-test.true),
+      omega (arith, l.invariant.0, c.records_at-records.ensures.0),
       λ tables end is.
           let now = l.invariant.1 tables end is in
-          let f = some_left (code_attribute_format (names_by a.file.now a.table.now) a.limit) a.file.now l.at l.left c.loop-left-test.true now.1 in
+          let f = some_left (code_attribute_format (names_by a.file.now a.table.now) a.limit) a.file.now l.at (a.attributes.count - l.counter) (a.attributes.count - (l.counter + 1)) (omega arith) now.1 in
           let those = c.records_at-records.ensures.1 f.first f.next f.read in
           let so : length f.first ≡ records.count = so_many (local_format (names_by a.file.now a.table.now) records.stop) records.count a.file.now records.from those.1 in
           let all : length (f.first ++ joined f.rest) ≡ length f.first + length (joined f.rest) = length-append f.first (joined f.rest) in
           let sum : l.total + length (f.first ++ joined f.rest) ≡ l.total + records.count + length (joined f.rest) = omega (arith, so, all) in (
             f.rest,
-            subst (λ (n : ℕ). read_by (times (l.left - 1) (code_attribute_format (names_by a.file.now a.table.now) a.limit)) a.file.now n ≡ right f.rest end) (sym those.0) f.onward,
+            subst (λ (n : ℕ). read_by (times (a.attributes.count - (l.counter + 1)) (code_attribute_format (names_by a.file.now a.table.now) a.limit)) a.file.now n ≡ right f.rest end) (sym those.0) f.onward,
             now.2 ∙ ap (λ (ts : List (List Local)). l.total + length (joined ts)) f.whole ∙ sum,
           ),
     )
@@ -46,8 +48,8 @@ pub returns : goal.returns
 unfolding joined
 returns c =
     let a = c.args in
-    let l = c.loop-left in
+    let l = c.loop in
     λ tables end is.
     let now = l.invariant.1 tables end is in
-    let sum : length (joined tables) ≡ l.total + 0 = now.2 ∙ ap (λ (ts : List (List Local)). l.total + length (joined ts)) (none_left (code_attribute_format (names_by a.file.now a.table.now) a.limit) a.file.now l.at l.left c.loop-left-test.false now.1) in
+    let sum : length (joined tables) ≡ l.total + 0 = now.2 ∙ ap (λ (ts : List (List Local)). l.total + length (joined ts)) (none_left (code_attribute_format (names_by a.file.now a.table.now) a.limit) a.file.now l.at (a.attributes.count - l.counter) (omega arith) now.1) in
     omega (arith, sum)

@@ -37,14 +37,8 @@ returns-in_err-next c =
     let told = stops a.file.now a.count room l.table l.at l.number (a.count - l.number - 1)
     _ (sym c.read_entry.ensures ∙ c.in_err-next.was)
     (taken a.file.now a.count room l.table l.at l.number l.behind_wide false
-    c.if-behind_wide.false c.loop-number-test.true l.invariant) in
+    c.if-behind_wide.false (omega arith) l.invariant) in
     let same = cleared-length c.clear.new.table a.table.now c.clear.ensures in record { answers = passed_on c.from_residual.ensures.1 ∙ told.0; keeps = told.1 ∙ ap (λ (room : ℕ). placed room (places_in a.file.now a.count)) same }
-
-pub overflow_add-number : goal.overflow_add-number
-overflow_add-number c = omega arith
-
-pub loop-number-smaller : goal.loop-number-smaller
-loop-number-smaller c = omega arith
 
 pub loop-number-preserved : goal.loop-number-preserved
 loop-number-preserved c =
@@ -52,21 +46,20 @@ loop-number-preserved c =
     let file = a.file.now in
     let room = length c.clear.new.table in
     let l = c.loop-number in
-    let some = c.loop-number-test.true in
     let left = a.count - l.number - 1 in
     elim c.if-behind_wide.branch [
       | then-behind_wide w ↦
           goes_on file a.count room l.table c.if-behind_wide.table l.at c.if-behind_wide.at l.number false c.if-behind_wide.behind_wide
           w.table-is w.at-is w.behind_wide-is
           (passes_number file a.count room l.table l.at l.number left
-          (taken file a.count room l.table l.at l.number l.behind_wide true w.if-behind_wide.true some l.invariant))
+          (taken file a.count room l.table l.at l.number l.behind_wide true w.if-behind_wide.true (omega arith) l.invariant))
       | else-behind_wide+in_ok-next w ↦
           goes_on file a.count room (set l.table l.number l.at) c.if-behind_wide.table w.in_ok-next.next c.if-behind_wide.at l.number
           (wide (byte_at file l.at)) c.if-behind_wide.behind_wide (w.table-is ∙ w.keep.ensures) w.at-is
           (w.behind_wide-is ∙ w.is_wide-behind_wide.ensures ∙ ap (λ (tag : ℕ). wide tag) w.byte_at.ensures)
           (reads_entry file a.count room l.table l.at l.number left w.in_ok-next.next
           (sym w.read_entry.ensures ∙ w.in_ok-next.was)
-          (taken file a.count room l.table l.at l.number l.behind_wide false w.if-behind_wide.false some l.invariant))
+          (taken file a.count room l.table l.at l.number l.behind_wide false w.if-behind_wide.false (omega arith) l.invariant))
     ]
 
 pub shape_of-table : goal.shape_of-table
@@ -78,7 +71,7 @@ pub returns : goal.returns
 returns c =
     let a = c.args in
     let l = c.loop-number in
-    let none : a.count - l.number ≡ 0 = omega (arith, c.loop-number-test.false) in
+    let none : a.count - l.number ≡ 0 = omega arith in
     let told = ends a.file.now a.count (length c.clear.new.table) l.table l.at l.number l.behind_wide
     (rw none at l.invariant) in
     let same = cleared-length c.clear.new.table a.table.now c.clear.ensures in record { answers = told.0; keeps = told.1 ∙ ap (λ (room : ℕ). placed room (places_in a.file.now a.count)) same }

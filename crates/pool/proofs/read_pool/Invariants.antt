@@ -8,6 +8,3 @@ use Rattle.pool.proofs.read_pool.Given as goal
 
 abbrev pub invariant-loop-number : goal.invariant-loop-number
 invariant-loop-number l = Filling l.file l.count (length l.initial.table) l.table l.at l.number (l.count - l.number) l.behind_wide
-
-abbrev pub decreases-loop-number : goal.decreases-loop-number
-decreases-loop-number l = l.count - l.number
