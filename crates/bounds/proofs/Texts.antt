@@ -18,8 +18,6 @@ use Rattle.tables.specs.declared.MemberPlace.{MemberPlace}
 use Rattle.lookup.specs.Lookup.{texts_of, member_found}
 use Rattle.search.specs.Search.{first_match}
 use Rattle.locals.specs.Name.{signature_parameter, numbered_name, parameter_name, unnamed, name_by, local_name}
-use Rattle.search.specs.declared.NamePlace.{NamePlace}
-use Rattle.search.specs.declared.NamePlace.TheVariants.{Name, Unnamed}
 use Rattle.text.specs.Decimal.{decimal}
 use Rattle.text.proofs.Decimal.{decimal_short}
 
@@ -102,6 +100,6 @@ local_within records count signature instance slot load = of (first_match (recor
         chosen (Within 40) (both instance (eqb slot 0)) (ascii "this") (parameter_name found slot) (lit≤ tt)
         (parameter_within found slot)
 
-    of : (place : NamePlace) → Within (length records + 40) (name_by place records signature instance slot)
-    of (Name from to) = omega (arith, part_within (to - from) from records)
-    of Unnamed = omega (arith, without)
+    of : (place : Option (ℕ × ℕ)) → Within (length records + 40) (name_by place records signature instance slot)
+    of (Some (from, to)) = omega (arith, part_within (to - from) from records)
+    of None = omega (arith, without)

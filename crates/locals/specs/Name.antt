@@ -10,8 +10,6 @@ use Rattle.descriptor.specs.Readers.{parameter_at}
 use Rattle.bytesearch.specs.Search.{first_from}
 use Rattle.text.specs.Decimal.{decimal}
 use Rattle.search.specs.Search.{first_match}
-use Rattle.search.specs.declared.NamePlace.{NamePlace}
-use Rattle.search.specs.declared.NamePlace.TheVariants.{Name, Unnamed}
 
 -- ---- methods
 
@@ -44,9 +42,9 @@ unnamed signature instance slot =
     pick (both instance (eqb slot 0)) (ascii "this") (parameter_name (signature_parameter signature instance slot) slot)
 
 -- a record's own name, else `this`, else a parameter's or a local's
-abbrev pub name_by : NamePlace → List ℕ → List ℕ → Bool → ℕ → List ℕ
-name_by (Name from to) records signature instance slot = take (to - from) (drop from records)
-name_by Unnamed records signature instance slot = unnamed signature instance slot
+abbrev pub name_by : (Option (ℕ × ℕ)) → List ℕ → List ℕ → Bool → ℕ → List ℕ
+name_by (Some (from, to)) records signature instance slot = take (to - from) (drop from records)
+name_by None records signature instance slot = unnamed signature instance slot
 
 -- the name of a local whose load stands at an index, by so many records
 unfoldable pub local_name : List ℕ → ℕ → List ℕ → Bool → ℕ → ℕ → List ℕ

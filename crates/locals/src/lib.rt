@@ -7,7 +7,7 @@ ghost use Rattle.text.specs.Decimal.{decimal};
 ghost use Rattle.text.specs.Writing.{Written};
 ghost use Rattle.locals.specs.Name.{is_instance, signature_parameter, numbered_name, unnamed, local_name};
 
-use search::{NamePlace, find_record};
+use search::find_record;
 use text::{put_at, put_decimal_at};
 
 // Whether a method has a receiver: flag 8 is clear.
@@ -58,6 +58,7 @@ fn put_unnamed_at(out: &mut [u8], at: usize, signature: &[u8], instance: bool, s
 }
 
 // Writes the name of a local, whose load stands at an index of the code, from a place on. Answers the place after it.
+#[tactic(auto, unfolding(crate::specs::Name::local_name))]
 pub fn describe_local(
     out: &mut [u8],
     at: usize,
@@ -70,7 +71,7 @@ pub fn describe_local(
 ) -> usize
     ensures { Written at (local_name records.now count signature.now instance slot load) out.old result out.new }
 {
-    let NamePlace::Name { from, to } = find_record(records, count, slot, load) else {
+    let Some((from, to)) = find_record(records, count, slot, load) else {
         return put_unnamed_at(out, at, signature, instance, slot);
     };
     put_at(out, at, &records[from..to])

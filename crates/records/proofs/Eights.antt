@@ -1,6 +1,6 @@
 -- A search over the records of a case, so many at a time.
 -- Assumes nothing.
-use Rattle.std.specs.Prelude.{Result, Ok, Err}
+use Rattle.std.specs.Prelude.{Result, Ok, Err, Option, Some, None}
 use Prim.Native.Nat.{ℕ, zero, suc, ◌-◌, zero-le}
 use native.Mathlib.Omega.{arith}
 use mathlib.Core.Bool.{Bool, true, false}
@@ -13,8 +13,6 @@ use Rattle.basics.specs.Choice.{pick, both}
 use Rattle.tables.specs.LocalRecord.{record_at, records_in, record_within, then_record}
 use Rattle.tables.specs.declared.RecordPlace.{RecordPlace}
 use Rattle.search.specs.Search.{covers, first_match}
-use Rattle.search.specs.declared.NamePlace.{NamePlace}
-use Rattle.search.specs.declared.NamePlace.TheVariants.{Name, Unnamed}
 use Rattle.records.specs.Run.{viewed_all, or_else, blank, run_of}
 use Rattle.records.specs.declared.LocalRecord.{LocalRecord}
 use Rattle.records.proofs.Search.{match_append}
@@ -32,7 +30,7 @@ module _ (slot load : ℕ) where
   blank_covers : covers 0 0 0 slot load ≡ false
   blank_covers = rw (le-ltb load 0 zero-le) (none_both (eqb 0 slot) (leb 0 load))
 
-  blanks_match : (room : ℕ) → first_match (viewed_all (run_of room [])) slot load ≡ Unnamed
+  blanks_match : (room : ℕ) → first_match (viewed_all (run_of room [])) slot load ≡ None
   unfolding run_of first_match
   blanks_match zero = refl
   blanks_match (suc room) = rw blank_covers (blanks_match room)
@@ -45,15 +43,15 @@ module _ (slot load : ℕ) where
   run_match zero records = refl
   run_match (suc room) [] = rw blank_covers (blanks_match room)
   run_match (suc room) (r ∷ records) =
-      ap (pick (covers r.start r.length r.slot slot load) (Name r.name r.next)) (run_match room records)
+      ap (pick (covers r.start r.length r.slot slot load) (Some (r.name, r.next))) (run_match room records)
 
   -- what is found in a run is found in the records
   pub run_found :
       (room : ℕ) (records : List RecordPlace) (from to : ℕ) → first_match (viewed_all
-      (run_of room records)) slot load ≡ Name from to →
-      Name from to ≡ first_match records slot load
+      (run_of room records)) slot load ≡ Some (from, to) →
+      Some (from, to) ≡ first_match records slot load
   run_found room records from to found =
-      ap (λ (name : NamePlace). or_else name (first_match (drop room records) slot load)) (sym found ∙ run_match room records)
+      ap (λ (name : Option (ℕ × ℕ)). or_else name (first_match (drop room records) slot load)) (sym found ∙ run_match room records)
       ∙ sym (match_append slot load (take room records) (drop room records))
       ∙ ap (λ (l : List RecordPlace). first_match l slot load) (take-append-drop room records)
 
@@ -147,27 +145,27 @@ module _ (bytes : List ℕ) (d : LocalRecord) where
     last_is = ap (λ (l : List LocalRecord). get_or l room d) is
 
     pub name_found :
-        (from to : ℕ) → first_match (viewed_all run) slot load ≡ Name from to →
-        Name from to ≡ first_match (records_in bytes left at) slot load
+        (from to : ℕ) → first_match (viewed_all run) slot load ≡ Some (from, to) →
+        Some (from, to) ≡ first_match (records_in bytes left at) slot load
     name_found from to found =
         run_found slot load (suc room) (records_in bytes left at) from to
         (ap (λ (l : List LocalRecord). first_match (viewed_all l) slot load) (sym is) ∙ found)
 
     pub search_ends :
-        (get_or run room d).to ≡ 0 → first_match (viewed_all run) slot load ≡ Unnamed →
-        Unnamed ≡ first_match (records_in bytes left at) slot load
+        (get_or run room d).to ≡ 0 → first_match (viewed_all run) slot load ≡ None →
+        None ≡ first_match (records_in bytes left at) slot load
     search_ends none unnamed =
         sym unnamed ∙ searched
         ∙ ap (λ (l : List RecordPlace). first_match l slot load)
         (run_short room left at (ap (λ (r : LocalRecord). r.to) (sym last_is) ∙ none))
 
     pub search_goes_on :
-        ((get_or run room d).to ≡ 0 → ⊥) → first_match (viewed_all run) slot load ≡ Unnamed →
+        ((get_or run room d).to ≡ 0 → ⊥) → first_match (viewed_all run) slot load ≡ None →
         first_match (records_in bytes (left - suc room) (get_or run room d).to) slot load ≡ first_match
         (records_in bytes left at) slot load
     search_goes_on some unnamed =
         ap (λ (r : LocalRecord). first_match (records_in bytes (left - suc room) r.to) slot load) last_is
-        ∙ ap (λ (name : NamePlace). or_else name (first_match (following left room (last_of room left at)) slot load))
+        ∙ ap (λ (name : Option (ℕ × ℕ)). or_else name (first_match (following left room (last_of room left at)) slot load))
         (sym unnamed ∙ searched)
         ∙ sym (match_append slot load (take (suc room) (records_in bytes left at)) (following left room (last_of room left at)))
         ∙ ap (λ (l : List RecordPlace). first_match l slot load)

@@ -1,5 +1,6 @@
 -- The search over a run, part by part.
 -- Assumes nothing.
+use Rattle.std.specs.Prelude.{Option, Some, None}
 use Prim.Native.Nat.{ℕ, zero, suc, ◌<◌, ◌≤◌}
 use native.Mathlib.Nat.{not-suc-le-zero, le_of_suc-le-suc}
 use mathlib.Core.Path.{◌≡◌, refl, sym, ◌∙◌, ap}
@@ -9,27 +10,25 @@ use lib.ListN.{length, get_or, drop, drop_of_length-le}
 use Rattle.basics.specs.Choice.{pick}
 use Rattle.tables.specs.declared.RecordPlace.{RecordPlace}
 use Rattle.search.specs.Search.{covers, first_match}
-use Rattle.search.specs.declared.NamePlace.{NamePlace}
-use Rattle.search.specs.declared.NamePlace.TheVariants.{Name, Unnamed}
 use Rattle.records.specs.Run.{viewed, viewed_all, or_else, blank}
 use Rattle.records.specs.declared.LocalRecord.{LocalRecord}
 
 -- ---- names that are found
 
-pub or_else_assoc : (a b c : NamePlace) → or_else (or_else a b) c ≡ or_else a (or_else b c)
-or_else_assoc (Name from to) b c = refl
-or_else_assoc Unnamed b c = refl
+pub or_else_assoc : (a b c : Option (ℕ × ℕ)) → or_else (or_else a b) c ≡ or_else a (or_else b c)
+or_else_assoc (Some (from, to)) b c = refl
+or_else_assoc None b c = refl
 
-pub or_else_none : (a : NamePlace) → or_else a Unnamed ≡ a
-or_else_none (Name from to) = refl
-or_else_none Unnamed = refl
+pub or_else_none : (a : Option (ℕ × ℕ)) → or_else a None ≡ a
+or_else_none (Some (from, to)) = refl
+or_else_none None = refl
 
 -- ---- lists of records
 
 -- a test on the first record
 by_test :
-    (t : Bool) (from to : ℕ) (rest all more : NamePlace) → all ≡ or_else rest more →
-    pick t (Name from to) all ≡ or_else (pick t (Name from to) rest) more
+    (t : Bool) (from to : ℕ) (rest all more : Option (ℕ × ℕ)) → all ≡ or_else rest more →
+    pick t (Some (from, to)) all ≡ or_else (pick t (Some (from, to)) rest) more
 by_test true from to rest all more e = refl
 by_test false from to rest all more e = e
 
@@ -45,7 +44,7 @@ module _ (slot load : ℕ) where
 
   -- a record by itself, and those after it
   pub match_step :
-      (found : NamePlace) (x : RecordPlace) (xs : List RecordPlace) →
+      (found : Option (ℕ × ℕ)) (x : RecordPlace) (xs : List RecordPlace) →
       or_else (or_else found (first_match (x ∷ []) slot load)) (first_match xs slot load) ≡
       or_else found (first_match (x ∷ xs) slot load)
   match_step found x xs =
@@ -56,11 +55,11 @@ module _ (slot load : ℕ) where
   module _ (r : LocalRecord) where
     pub match_one :
         covers r.start r.length r.slot slot load ≡ true →
-        first_match (viewed r ∷ []) slot load ≡ Name r.from r.to
+        first_match (viewed r ∷ []) slot load ≡ Some (r.from, r.to)
     unfolding first_match
     match_one e = rw e
 
-    pub miss_one : covers r.start r.length r.slot slot load ≡ false → first_match (viewed r ∷ []) slot load ≡ Unnamed
+    pub miss_one : covers r.start r.length r.slot slot load ≡ false → first_match (viewed r ∷ []) slot load ≡ None
     unfolding first_match
     miss_one e = rw e
 
@@ -73,15 +72,15 @@ from_place (r ∷ rs) (suc i) l = from_place rs i (le_of_suc-le-suc l)
 
 module _ (run : List LocalRecord) (slot load i : ℕ) where
   -- what is found from place i on, where something is found already
-  abbrev pub found_from : NamePlace → NamePlace
+  abbrev pub found_from : (Option (ℕ × ℕ)) → Option (ℕ × ℕ)
   found_from found = or_else found (first_match (viewed_all (drop i run)) slot load)
 
-  pub found_over : (found : NamePlace) → length run ≤ i → found_from found ≡ found
+  pub found_over : (found : Option (ℕ × ℕ)) → length run ≤ i → found_from found ≡ found
   unfolding first_match
   found_over found over = rw (drop_of_length-le run over) (or_else_none found)
 
 pub found_next :
-    (run : List LocalRecord) (slot load i : ℕ) (found : NamePlace) → i < length run →
+    (run : List LocalRecord) (slot load i : ℕ) (found : Option (ℕ × ℕ)) → i < length run →
     found_from run slot load (suc i) (or_else found (first_match (viewed (get_or run i blank) ∷ []) slot load)) ≡
     found_from run slot load i found
 found_next run slot load i found l =

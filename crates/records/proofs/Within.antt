@@ -15,8 +15,6 @@ use Rattle.items.proofs.Laws.{text-within}
 use Rattle.tables.specs.LocalRecord.{record_at, records_in, record_within, then_record}
 use Rattle.tables.specs.declared.RecordPlace.{RecordPlace}
 use Rattle.search.specs.Search.{covers, first_match, name_inside}
-use Rattle.search.specs.declared.NamePlace.{NamePlace}
-use Rattle.search.specs.declared.NamePlace.TheVariants.{Name}
 
 module _ (bytes : List ℕ) (first : ℕ) where
   abbrev Within : Result RecordPlace ℕ → Type 0
@@ -47,8 +45,8 @@ module _ (bytes : List ℕ) (first : ℕ) where
 
 module _ (bytes : List ℕ) (slot load : ℕ) where
   by_test :
-      (t : Bool) (size from to : ℕ) (rest : NamePlace) → name_inside size (Name from to) → name_inside size rest →
-      name_inside size (pick t (Name from to) rest)
+      (t : Bool) (size from to : ℕ) (rest : Option (ℕ × ℕ)) → name_inside size (Some (from, to)) → name_inside size rest →
+      name_inside size (pick t (Some (from, to)) rest)
   by_test true size from to rest one more = one
   by_test false size from to rest one more = more
 
@@ -71,6 +69,6 @@ module _ (bytes : List ℕ) (slot load : ℕ) where
 
   -- so the search over a case's bytes answers a name in them
   pub answered :
-      (count : ℕ) (r : NamePlace) → r ≡ first_match (records_in bytes count 0) slot load →
+      (count : ℕ) (r : Option (ℕ × ℕ)) → r ≡ first_match (records_in bytes count 0) slot load →
       (r ≡ first_match (records_in bytes count 0) slot load) × name_inside (length bytes) r
   answered count r e = (e, subst (name_inside (length bytes)) (sym e) (found-inside count 0))

@@ -1,11 +1,9 @@
 -- A run of local records (document 01, "Expected form in each place"): "Lent slice of start, length, slot and name-place structs;
 -- a thin search proved equal to the case-bytes search."
 -- Assumes nothing.
-use Rattle.std.specs.Prelude.{ℕ, zero, suc, ◌-◌, List, [], ◌∷◌, map}
+use Rattle.std.specs.Prelude.{ℕ, zero, suc, ◌-◌, List, [], ◌∷◌, map, Option, Some, None}
 use Rattle.tables.specs.LocalRecord.{record_at, then_record}
 use Rattle.tables.specs.declared.RecordPlace.{RecordPlace}
-use Rattle.search.specs.declared.NamePlace.{NamePlace}
-use Rattle.search.specs.declared.NamePlace.TheVariants.{Name, Unnamed}
 use Rattle.records.specs.declared.LocalRecord.{LocalRecord}
 use Rattle.records.specs.declared.Reading.{Reading}
 
@@ -28,9 +26,9 @@ abbrev pub viewed_all : List LocalRecord → List RecordPlace
 viewed_all run = map viewed run
 
 -- a name that is found, else another
-abbrev pub or_else : NamePlace → NamePlace → NamePlace
-or_else (Name from to) other = Name from to
-or_else Unnamed other = other
+abbrev pub or_else : Option (ℕ × ℕ) → Option (ℕ × ℕ) → Option (ℕ × ℕ)
+or_else (Some (from, to)) other = Some (from, to)
+or_else None other = other
 
 -- ---- a run of a case's records
 

@@ -7,7 +7,7 @@ ghost use Rattle.tables.specs.LocalRecord.{records_in};
 ghost use Rattle.search.specs.Search.{first_match, name_inside};
 ghost use Rattle.records.specs.Run.{viewed, viewed_all, or_else, read_next, run_of};
 
-use search::{NamePlace, covers_load};
+use search::covers_load;
 
 // A local record: the window of indexes that it holds for, its slot, and where its name begins and ends.
 #[derive(Clone, Copy)]
@@ -43,39 +43,29 @@ const NO_MORE: Reading = Reading {
     left: 0,
 };
 
-// A name that is found, else another.
-fn first_of(found: NamePlace, other: NamePlace) -> NamePlace
-    ensures { result ≡ or_else found other }
-{
-    match found {
-        NamePlace::Name { from, to } => NamePlace::Name { from, to },
-        NamePlace::Unnamed => other,
-    }
-}
-
 // The name that is found so far, else that of a record of the slot whose window holds the index.
-fn name_or(local: LocalRecord, slot: usize, load: usize, found: NamePlace) -> NamePlace
+#[tactic(auto, unfolding(search::specs::Search::first_match))]
+fn name_or(
+    local: LocalRecord,
+    slot: usize,
+    load: usize,
+    found: Option<(usize, usize)>,
+) -> Option<(usize, usize)>
     ensures { result ≡ or_else found (first_match (viewed local ∷ []) slot load) }
 {
     if covers_load(local.start, local.length, local.slot, slot, load) {
-        let name = NamePlace::Name {
-            from: local.from,
-            to: local.to,
-        };
-        return first_of(found, name);
+        return found.or(Some((local.from, local.to)));
     }
     found
 }
 
 // The name of the first record of a lent run that is of a slot and whose window holds the load's index.
-pub fn search_run(run: &[LocalRecord], slot: usize, load: usize) -> NamePlace
+pub fn search_run(run: &[LocalRecord], slot: usize, load: usize) -> Option<(usize, usize)>
     ensures { result ≡ first_match (viewed_all run.now) slot load }
 {
-    let mut found = NamePlace::Unnamed;
-    let mut i = 0;
-    while i < run.len() {
-        found = name_or(run[i], slot, load, found);
-        i += 1;
+    let mut found = None;
+    for local in run {
+        found = name_or(*local, slot, load, found);
     }
     found
 }
@@ -112,11 +102,9 @@ pub fn fill_run(run: &mut [LocalRecord], bytes: &[u8], at: usize, count: usize)
         at,
         left: count,
     };
-    let mut i = 0;
-    while i < run.len() {
+    for local in run {
         reading = read_next(bytes, reading);
-        run[i] = reading.local;
-        i += 1;
+        *local = reading.local;
     }
 }
 
@@ -130,24 +118,19 @@ fn eight_records(bytes: &[u8], at: usize, count: usize) -> [LocalRecord; 8]
 }
 
 // The search over eight records, which are lent.
-fn search_eight(eight: [LocalRecord; 8], slot: usize, load: usize) -> NamePlace
+fn search_eight(eight: [LocalRecord; 8], slot: usize, load: usize) -> Option<(usize, usize)>
     ensures { result ≡ first_match (viewed_all eight) slot load }
 {
     search_run(&eight, slot, load)
 }
 
-// A number, less eight or as many as it has.
-fn less_eight(n: usize) -> usize
-    ensures { result ≡ n - 8 }
-{
-    if n < 8 {
-        return 0;
-    }
-    n - 8
-}
-
 // The name of the first record of a case's bytes that is of a slot and whose window holds the load's index, over runs of eight.
-pub fn find_in_runs(records: &[u8], count: usize, slot: usize, load: usize) -> NamePlace
+pub fn find_in_runs(
+    records: &[u8],
+    count: usize,
+    slot: usize,
+    load: usize,
+) -> Option<(usize, usize)>
     ensures { (result ≡ first_match (records_in records.now count 0) slot load)
         × name_inside (length records.now) result }
 {
@@ -156,15 +139,15 @@ pub fn find_in_runs(records: &[u8], count: usize, slot: usize, load: usize) -> N
     while 0 < left {
         let eight = eight_records(records, at, left);
         let found = search_eight(eight, slot, load);
-        if let NamePlace::Name { from, to } = found {
-            return NamePlace::Name { from, to };
+        if let Some(name) = found {
+            return Some(name);
         }
         let last = eight[7];
         if last.to == 0 {
-            return NamePlace::Unnamed;
+            return None;
         }
         at = last.to;
-        left = less_eight(left);
+        left = left.saturating_sub(8);
     }
-    NamePlace::Unnamed
+    None
 }

@@ -1,5 +1,6 @@
 -- The search answers the first record that matches.
 -- Assumes nothing.
+use Rattle.std.specs.Prelude.{Option, Some, None}
 use Prim.Native.Nat.{ℕ}
 use mathlib.Core.Path.{◌≡◌, refl, ap}
 use mathlib.Core.Bool.{Bool, true, false}
@@ -8,13 +9,11 @@ use Rattle.basics.specs.Choice.{pick}
 use Rattle.tables.specs.declared.RecordPlace.{RecordPlace}
 use Rattle.search.specs.First.{Matches, Means, FirstMatchDeclared}
 use Rattle.search.specs.Search.{covers, first_match}
-use Rattle.search.specs.declared.NamePlace.{NamePlace}
-use Rattle.search.specs.declared.NamePlace.TheVariants.{Name, Unnamed}
 
 module _ (slot load : ℕ) (r : RecordPlace) (rs : List RecordPlace) where
   -- a record before the first that does not match
-  further : (found : NamePlace) → (Matches slot load r → ⊥) → Means slot load rs found → Means slot load (r ∷ rs) found
-  further (Name from to) other is =
+  further : (found : Option (ℕ × ℕ)) → (Matches slot load r → ⊥) → Means slot load rs found → Means slot load (r ∷ rs) found
+  further (Some (from, to)) other is =
       record {
         before = r ∷ is.before;
         first = is.first;
@@ -24,11 +23,11 @@ module _ (slot load : ℕ) (r : RecordPlace) (rs : List RecordPlace) where
         matches = is.matches;
         name = is.name;
       }
-  further Unnamed other is = (other, is)
+  further None other is = (other, is)
 
   by_test :
       (t : Bool) → covers r.start r.length r.slot slot load ≡ t → Means slot load rs (first_match rs slot load) →
-      Means slot load (r ∷ rs) (pick t (Name r.name r.next) (first_match rs slot load))
+      Means slot load (r ∷ rs) (pick t (Some (r.name, r.next)) (first_match rs slot load))
   by_test true e rest =
       record {
         before = [];

@@ -1,50 +1,34 @@
 -- The search over records, one record further; and the windows of records.
 -- Assumes nothing.
-use Rattle.std.specs.Prelude.{Ok, Err}
-use Prim.Native.Nat.{ℕ, zero, suc, ◌+◌, ◌-◌, ◌≤◌, ◌<◌}
-use native.Mathlib.Nat.{not-suc-le-zero}
-use native.Mathlib.Numerals.{sub-one}
+use Rattle.std.specs.Prelude.{Result, Ok, Err, Option, Some, None}
+use Prim.Native.Nat.{ℕ, suc, ◌+◌, ◌-◌, ◌≤◌}
 use native.Mathlib.Omega.{arith}
 use mathlib.Core.Path.{◌≡◌, refl, ◌∙◌, sym}
 use mathlib.Core.Bool.{Bool, true, false}
-use mathlib.Core.List.{List, ◌∷◌}
+use mathlib.Core.List.{List, [], ◌∷◌}
 use lib.Dec.{ltb}
 use borrow.Author.Tests.{lt-ltb, le-ltb, ltb-true, ltb-false}
-use Rattle.tables.specs.LocalRecord.{record_at, records_in}
+use Rattle.basics.specs.Choice.{pick}
+use Rattle.tables.specs.LocalRecord.{record_at, records_in, then_record}
 use Rattle.tables.specs.declared.RecordPlace.{RecordPlace}
 use Rattle.search.specs.Search.{covers, first_match}
-use Rattle.search.specs.declared.NamePlace.TheVariants.{Name, Unnamed}
 
-module _ (records : List ℕ) (at slot load : ℕ) where
-  pub none_left : (left : ℕ) → left ≤ 0 → Unnamed ≡ first_match (records_in records left at) slot load
-  unfolding records_in first_match
-  none_left zero none = refl
-  none_left (suc left) none = absurd (not-suc-le-zero none)
-
-  pub unread_ends : (left place : ℕ) → record_at records at ≡ Err place → Unnamed ≡ first_match (records_in records left at) slot load
-  unfolding records_in first_match
-  unread_ends zero place e = refl
-  unread_ends (suc left) place e = rw e
-
-  module _ (left : ℕ) (r : RecordPlace) (some : 0 < left) (read : record_at records at ≡ Ok r) where
-    listed : records_in records left at ≡ r ∷ records_in records (left - 1) r.next
-    unfolding records_in
-    listed = by_count left some
-      where
-        by_count : (n : ℕ) → 0 < n → records_in records n at ≡ r ∷ records_in records (n - 1) r.next
-        by_count zero none = absurd (not-suc-le-zero none)
-        by_count (suc n) more = rw (read, sub-one)
-
-    pub matches :
-        covers r.start r.length r.slot slot load ≡ true → Name r.name r.next ≡ first_match (records_in records left at) slot load
-    unfolding first_match
-    matches e = rw (listed, e)
-
-    pub passes :
-        covers r.start r.length r.slot slot load ≡ false →
-        first_match (records_in records (left - 1) r.next) slot load ≡ first_match (records_in records left at) slot load
-    unfolding first_match
-    passes e = rw (listed, e)
+-- one turn of the search
+pub match_turn :
+    (records : List ℕ) (slot load left rest at : ℕ) → left ≡ suc rest →
+    first_match (records_in records left at) slot load
+    ≡ then_record {A = Option (ℕ × ℕ)} (record_at records at) (λ wrong. None) (λ r.
+    pick (covers r.start r.length r.slot slot load) (Some (r.name, r.next)) (first_match (records_in records rest r.next) slot load))
+unfolding records_in first_match
+match_turn records slot load left rest at e = rw e (by_record (record_at records at))
+  where
+    by_record :
+        (r : Result RecordPlace ℕ) →
+        first_match (then_record r (λ wrong. []) (λ place. place ∷ records_in records rest place.next)) slot load
+        ≡ then_record {A = Option (ℕ × ℕ)} r (λ wrong. None) (λ r.
+        pick (covers r.start r.length r.slot slot load) (Some (r.name, r.next)) (first_match (records_in records rest r.next) slot load))
+    by_record (Ok r) = refl
+    by_record (Err place) = refl
 
 -- ---- windows
 

@@ -1,10 +1,8 @@
 -- The first record that matches, declared: it matches, and none before it does.
 -- Assumes nothing.
-use Rattle.std.specs.Prelude.{ℕ, ◌≡◌, List, [], ◌∷◌, ◌++◌, T}
+use Rattle.std.specs.Prelude.{ℕ, ◌≡◌, List, [], ◌∷◌, ◌++◌, T, Option, Some, None}
 use Rattle.tables.specs.declared.RecordPlace.{RecordPlace}
 use Rattle.search.specs.Search.{covers, first_match}
-use Rattle.search.specs.declared.NamePlace.{NamePlace}
-use Rattle.search.specs.declared.NamePlace.TheVariants.{Name, Unnamed}
 
 -- the record is of that slot, and its window holds the load's index
 abbrev pub Matches : ℕ → ℕ → RecordPlace → Type 0
@@ -25,9 +23,9 @@ pub record FirstOf (slot load : ℕ) (records : List RecordPlace) (from to : ℕ
   pub name : (from ≡ first.name) × (to ≡ first.next)
 
 -- what an answer of the search means
-abbrev pub Means : ℕ → ℕ → List RecordPlace → NamePlace → Type 0
-Means slot load records (Name from to) = FirstOf slot load records from to
-Means slot load records Unnamed = NoneMatches slot load records
+abbrev pub Means : ℕ → ℕ → List RecordPlace → Option (ℕ × ℕ) → Type 0
+Means slot load records (Some (from, to)) = FirstOf slot load records from to
+Means slot load records None = NoneMatches slot load records
 
 -- the search answers the first match
 abbrev pub FirstMatchDeclared : Type 0

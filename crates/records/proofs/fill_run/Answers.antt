@@ -5,16 +5,16 @@ use native.Mathlib.Numerals.{add-one}
 use Rattle.records.proofs.Fill.{filled_next, filled_over}
 use Rattle.records.proofs.fill_run.Goals as goal
 
-pub loop-i-preserved : goal.loop-i-preserved
-loop-i-preserved c =
-    let l = c.loop-i in
+pub loop-local-preserved : goal.loop-local-preserved
+loop-local-preserved c =
+    let l = c.loop-local in
     let a = c.args in
     let n = length a.run.now in
     rw (add-one, c.read_next-reading.ensures)
-    (filled_next a.bytes.now n l.i l.run l.reading (omega arith) l.auto.run ∙ l.invariant)
+    (filled_next a.bytes.now n l.local-index l.local-items l.reading (omega arith) l.auto.local-items ∙ l.invariant)
 
 pub returns : goal.returns
 returns c =
-    let l = c.loop-i in
+    let l = c.loop-local in
     let a = c.args in
-    sym (filled_over a.bytes.now (length a.run.now) l.i l.run l.reading (omega arith) l.auto.run) ∙ l.invariant
+    sym (filled_over a.bytes.now (length a.run.now) l.local-index l.local-items l.reading (omega arith) l.auto.local-items) ∙ l.invariant

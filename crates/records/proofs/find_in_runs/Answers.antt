@@ -2,24 +2,23 @@
 -- Assumes nothing.
 use Prim.Native.Nat.{ℕ}
 use native.Mathlib.Omega.{arith}
-use mathlib.Core.Path.{◌∙◌, sym, ap}
+use mathlib.Core.Path.{◌≡◌, ◌∙◌, sym, ap}
 use lib.ListN.{get_or}
 use Rattle.tables.specs.LocalRecord.{records_in}
 use Rattle.search.specs.Search.{first_match}
-use Rattle.search.proofs.Search.{none_left}
 use Rattle.records.specs.Run.{blank}
 use Rattle.records.proofs.Eights.{name_found, search_ends, search_goes_on}
 use Rattle.records.proofs.Within.{answered}
 use Rattle.records.proofs.find_in_runs.Goals as goal
 
-pub returns-in-Name : goal.returns-in-Name
-returns-in-Name c =
+pub returns-in-Some : goal.returns-in-Some
+returns-in-Some c =
     let loop = c.loop-left in
     let a = c.args in
     answered a.records.now a.slot a.load a.count _
     (name_found a.records.now blank a.slot a.load 7 loop.left loop.at c.eight_records-eight.result
-    c.eight_records-eight.ensures c.in-Name.from c.in-Name.to
-    (sym c.search_eight-found.ensures ∙ c.in-Name.is)
+    c.eight_records-eight.ensures c.in-Some.name.0 c.in-Some.name.1
+    (sym c.search_eight-found.ensures ∙ c.in-Some.is)
     ∙ loop.invariant)
 
 pub returns-then-last-eq0 : goal.returns-then-last-eq0
@@ -40,14 +39,15 @@ loop-left-preserved c =
     let loop = c.loop-left in
     let a = c.args in
     let last = get_or c.eight_records-eight.result 7 blank in
-    ap (λ (left : ℕ). first_match (records_in a.records.now left last.to) a.slot a.load) c.less_eight-left.ensures
+    ap (λ (left : ℕ). first_match (records_in a.records.now left last.to) a.slot a.load) c.saturating_sub-left.ensures
     ∙ search_goes_on a.records.now blank a.slot a.load 7 loop.left loop.at c.eight_records-eight.result
     c.eight_records-eight.ensures c.if-last-eq0.false (sym c.search_eight-found.ensures ∙ c.in_default.is)
     ∙ loop.invariant
 
 pub returns : goal.returns
+unfolding records_in first_match
 returns c =
     let a = c.args in
     let loop = c.loop-left in
-    answered a.records.now a.slot a.load a.count _
-    (none_left a.records.now loop.at a.slot a.load loop.left c.loop-left-test.false ∙ loop.invariant)
+    let none : loop.left ≡ 0 = omega arith in
+    answered a.records.now a.slot a.load a.count _ (rw none at loop.invariant)

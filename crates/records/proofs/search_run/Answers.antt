@@ -5,15 +5,15 @@ use native.Mathlib.Numerals.{add-one}
 use Rattle.records.proofs.Search.{found_next, found_over}
 use Rattle.records.proofs.search_run.Goals as goal
 
-pub loop-i-preserved : goal.loop-i-preserved
-loop-i-preserved c =
-    let l = c.loop-i in
+pub loop-local-preserved : goal.loop-local-preserved
+loop-local-preserved c =
+    let l = c.loop-local in
     let a = c.args in
     rw (add-one, c.name_or-found.ensures)
-    (found_next a.run.now a.slot a.load l.i l.found (omega arith) ∙ l.invariant)
+    (found_next a.run.now a.slot a.load l.local-index l.found (omega arith) ∙ l.invariant)
 
 pub returns : goal.returns
 returns c =
-    let l = c.loop-i in
+    let l = c.loop-local in
     let a = c.args in
-    sym (found_over a.run.now a.slot a.load l.i l.found (omega arith)) ∙ l.invariant
+    sym (found_over a.run.now a.slot a.load l.local-index l.found (omega arith)) ∙ l.invariant
