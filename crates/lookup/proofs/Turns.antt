@@ -1,9 +1,7 @@
 -- A lookup, one member further; and that it finds nothing at or below the last index, since indexes rise.
 -- Assumes nothing.
 use Rattle.std.specs.Prelude.{Option, Some, None, Result, Ok, Err}
-use Prim.Native.Nat.{ℕ, zero, suc, ◌-◌, ◌≤◌, ◌<◌}
-use native.Mathlib.Nat.{not-suc-le-zero}
-use native.Mathlib.Numerals.{sub-one}
+use Prim.Native.Nat.{ℕ, zero, suc, ◌≤◌, ◌<◌}
 use native.Mathlib.Omega.{arith}
 use mathlib.Core.Path.{◌≡◌, refl}
 use mathlib.Core.Bool.{Bool, true, false}
@@ -18,14 +16,13 @@ use Rattle.tables.specs.declared.MemberPlace.{MemberPlace}
 use Rattle.lookup.specs.Lookup.{texts_of, member_found}
 
 pub found_turn :
-    (bytes : List ℕ) (index kind left last at : ℕ) → 0 < left →
+    (bytes : List ℕ) (index kind left rest last at : ℕ) → left ≡ suc rest →
     member_found bytes index kind left last at
     ≡ then_member (member_at bytes last at) (λ wrong. []) (λ place.
     pick (eqb place.index index) (pick (eqb place.kind kind) (texts_of bytes place) [])
-    (member_found bytes index kind (left - 1) place.index place.next))
+    (member_found bytes index kind rest place.index place.next))
 unfolding member_found
-found_turn bytes index kind zero last at some = absurd (not-suc-le-zero some)
-found_turn bytes index kind (suc left) last at some = simp sub-one
+found_turn bytes index kind left rest last at e = rw e refl
 
 -- ---- indexes rise
 

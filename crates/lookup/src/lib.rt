@@ -9,6 +9,7 @@ use tables::read_member;
 // The part of a member run that holds the three texts of the member with a pool index and kind, among so many members from
 // a place on, whose indexes are above another. It is empty where there is no such member: a member of the other kind at the
 // index is missing too, and so is one that can't be read. Indexes rise, so a greater one ends the search.
+#[tactic(auto, using(crate::proofs::Turns::found_none), unfolding(crate::specs::Lookup::member_found))]
 pub fn find_from<'a>(
     members: &'a [u8],
     from: usize,
@@ -21,8 +22,7 @@ pub fn find_from<'a>(
 {
     let mut at = from;
     let mut last = above;
-    let mut left = count;
-    while 0 < left {
+    for _ in 0..count {
         let Ok(member) = read_member(members, at, last) else {
             return &members[..0];
         };
@@ -39,7 +39,6 @@ pub fn find_from<'a>(
         }
         at = member.next;
         last = member.index;
-        left -= 1;
     }
     &members[..0]
 }

@@ -1,12 +1,11 @@
 -- `lookup::find_from` meets its contract. The invariant: the lookup finds from here on what it finds from the start.
 -- Assumes nothing.
-use Prim.Native.Nat.{◌≤◌}
+use Prim.Native.Nat.{◌-◌}
 use mathlib.Core.Path.{◌≡◌}
 use Rattle.lookup.specs.Lookup.{member_found}
 use Rattle.lookup.proofs.find_from.Given as goal
 
-abbrev pub invariant-loop-left : goal.invariant-loop-left
-invariant-loop-left l = (member_found l.members l.index l.kind l.count l.above l.from ≡ member_found l.members l.index l.kind l.left l.last l.at) × (l.left ≤ l.count)
-
-abbrev pub decreases-loop-left : goal.decreases-loop-left
-decreases-loop-left l = l.left
+abbrev pub invariant-loop : goal.invariant-loop
+invariant-loop l =
+    member_found l.members l.index l.kind l.count l.above l.from
+    ≡ member_found l.members l.index l.kind (l.count - l.counter) l.last l.at
