@@ -1,17 +1,14 @@
 -- Behind the members of earlier buckets a lookup finds what it finds before them.
 -- Assumes nothing.
 use Rattle.std.specs.Prelude.{Result, Ok, Err}
-use Prim.Native.Nat.{ℕ, zero, suc, ◌-◌, ◌≤◌, ◌<◌}
+use Prim.Native.Nat.{ℕ, zero, suc, ◌≤◌, ◌<◌}
 use native.Mathlib.Omega.{arith}
-use native.Mathlib.Nat.{not-suc-le-zero}
-use native.Mathlib.Numerals.{sub-one}
 use mathlib.Core.Path.{◌≡◌, refl, ◌∙◌, sym, ap}
 use mathlib.Core.Bool.{Bool, true, false}
 use mathlib.Core.List.{List}
 use lib.Dec.{leb}
 use borrow.Author.Tests.{ne_eqb, lt-leb, leb-false}
-use Rattle.basics.specs.Choice.{pick}
-use Rattle.tables.specs.Member.{member_at, then_member}
+use Rattle.tables.specs.Member.{member_at}
 use Rattle.lookup.specs.Lookup.{member_found}
 use Rattle.tables.specs.declared.MemberPlace.{MemberPlace}
 use Rattle.index.specs.Index.{bucket_of, skipped, found_in}
@@ -22,17 +19,6 @@ rest at last left = record { at = at; last = last; left = left }
 
 abbrev pub skipped_in : List ℕ → ℕ → Rest → Rest
 skipped_in bytes bucket r = skipped bytes bucket r.left r.last r.at
-
--- one turn of the loop
-pub skipped_turn :
-    (bytes : List ℕ) (bucket left last at : ℕ) → 0 < left →
-    skipped bytes bucket left last at
-    ≡ then_member (member_at bytes last at) (λ wrong. rest at last left) (λ place.
-    pick (leb bucket (bucket_of place.index)) (rest at last left)
-    (skipped bytes bucket (left - 1) place.index place.next))
-unfolding skipped
-skipped_turn bytes bucket zero last at some = absurd (not-suc-le-zero some)
-skipped_turn bytes bucket (suc left) last at some = simp sub-one
 
 -- a member of an earlier bucket is skipped
 skipped_past :

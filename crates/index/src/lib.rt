@@ -19,24 +19,29 @@ pub struct Rest {
 }
 
 // What is left of so many members from a place on, whose indexes are above another, behind those of the buckets before one.
+#[tactic(auto, unfolding(crate::specs::Index::skipped))]
 fn skip_to(members: &[u8], from: usize, above: usize, count: usize, bucket: usize) -> Rest
     ensures { result ≡ skipped members.now bucket count above from }
 {
-    let mut at = from;
-    let mut last = above;
-    let mut left = count;
-    while 0 < left {
-        let Ok(member) = tables::read_member(members, at, last) else {
-            return Rest { at, last, left };
+    let mut rest = Rest {
+        at: from,
+        last: above,
+        left: count,
+    };
+    for left in (0..count).rev() {
+        let Ok(member) = tables::read_member(members, rest.at, rest.last) else {
+            break;
         };
         if bucket <= member.index / WIDTH {
-            return Rest { at, last, left };
+            break;
         }
-        at = member.next;
-        last = member.index;
-        left -= 1;
+        rest = Rest {
+            at: member.next,
+            last: member.index,
+            left,
+        };
     }
-    Rest { at, last, left }
+    rest
 }
 
 // Fills the buckets of a table, three cells each.
@@ -45,19 +50,16 @@ pub fn index_members(members: &[u8], count: usize, table: &mut [usize])
     ensures serves { Indexed members.now count table.new }
 {
     let buckets = table.len() / 3;
-    let mut at = 0;
-    let mut last = 0;
-    let mut left = count;
-    let mut bucket = 0;
-    while bucket < buckets {
-        let rest = skip_to(members, at, last, left, bucket);
-        at = rest.at;
-        last = rest.last;
-        left = rest.left;
-        table[3 * bucket] = at;
-        table[3 * bucket + 1] = last;
-        table[3 * bucket + 2] = left;
-        bucket += 1;
+    let mut rest = Rest {
+        at: 0,
+        last: 0,
+        left: count,
+    };
+    for bucket in 0..buckets {
+        rest = skip_to(members, rest.at, rest.last, rest.left, bucket);
+        table[3 * bucket] = rest.at;
+        table[3 * bucket + 1] = rest.last;
+        table[3 * bucket + 2] = rest.left;
     }
 }
 

@@ -19,13 +19,13 @@ pub loop-bucket-preserved : goal.loop-bucket-preserved
 loop-bucket-preserved c =
     let l = c.loop-bucket in
     let a = c.args in
-    tables.filling_on a.members.now a.count a.table.now l.table l.at l.last l.left l.bucket l.invariant
+    tables.filling_on a.members.now a.count a.table.now l.table l.rest.at l.rest.last l.rest.left l.bucket l.invariant
     c.loop-bucket-test.true _ c.skip_to-rest.ensures
 
 pub returns : goal.returns
 returns c =
     let l = c.loop-bucket in
     let a = c.args in
-    let all = tables.tabled a.members.now a.count a.table.now l.table l.at l.last l.left l.bucket l.invariant
+    let all = tables.tabled a.members.now a.count a.table.now l.table l.rest.at l.rest.last l.rest.left l.bucket l.invariant
     c.loop-bucket-test.false in
     record { fills = all.0; serves = all.1 }
