@@ -59,7 +59,9 @@ module _ (text d cells : List ℕ) (at k : ℕ) (w : Writing text d cells at k) 
   here n e = rw (turn text at w.left w.enough, e) at w.filling
 
   -- an accepted parameter is not void
-  one_more : (t : TypeRecord) (end : ℕ) → type_at text at ≡ Ok (Some (t, end)) → Filling (after t (parameters_at (w.left - 1) text end)) cells k wanted
+  one_more :
+      (t : TypeRecord) (end : ℕ) → type_at text at ≡ Ok (Some (t, end)) →
+      Filling (after t (parameters_at (w.left - 1) text end)) cells k wanted
   one_more t end e = by (eqb t.letter 86) refl (here (Ok (Some (t, end))) e)
     where
       by :

@@ -23,7 +23,8 @@ next_earlier at place end h (Ok None) w = omega arith
 next_earlier at place end h (Err r) w = tt
 
 class_within :
-    (depth from n end : ℕ) (f : Option ℕ) → from + 1 + n ≤ end → Among f (from + 1) n → NextWithin from end (class_type depth (from + 1) f)
+    (depth from n end : ℕ) (f : Option ℕ) → from + 1 + n ≤ end → Among f (from + 1) n →
+    NextWithin from end (class_type depth (from + 1) f)
 unfolding class_type
 class_within depth from n end (Some k) few h =
     chosen (NextWithin from end) (eqb k (from + 1)) (Err _) (Ok (Some (_, k + 1))) tt (omega arith, omega arith)

@@ -15,7 +15,8 @@ returns-in_err-t c = let e = here _ _ _ c.loop-t.invariant (Err c.in_err-t.field
 
 pub returns-then-t-eq-VOID : goal.returns-then-t-eq-VOID
 returns-then-t-eq-VOID c =
-    rw (eq-eqb _ _ c.if-t-eq-VOID.true) at (here _ _ _ c.loop-t.invariant (Ok (Some (_, _))) (sym c.get_next.ensures ∙ c.in_ok-t.was ∙ ap Ok c.in-Some.is))
+    rw (eq-eqb _ _ c.if-t-eq-VOID.true) at (here _ _ _ c.loop-t.invariant (Ok (Some (_, _)))
+    (sym c.get_next.ensures ∙ c.in_ok-t.was ∙ ap Ok c.in-Some.is))
 
 pub loop-t-preserved : goal.loop-t-preserved
 loop-t-preserved c =
