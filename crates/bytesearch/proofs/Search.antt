@@ -6,7 +6,7 @@ use Rattle.std.proofs.lemmas.Iterator.Adapters.{position_from-zero}
 use Prim.Native.Nat.{ℕ, suc, ◌+◌, ◌-◌, ◌≤◌, ◌<◌}
 use native.Mathlib.Numerals.{add-one}
 use native.Mathlib.Omega.{arith}
-use mathlib.Core.Path.{◌≡◌, refl, ◌∙◌, sym, ap}
+use mathlib.Core.Path.{◌≡◌, refl, ◌∙◌, sym, ap, subst}
 use mathlib.Core.Bool.{Bool, true, false}
 use mathlib.Core.List.{List, [], ◌∷◌}
 use lib.Dec.{eqb}
@@ -108,6 +108,11 @@ found-inside byte text from = place (first_in byte (drop from text) from) (among
     place : (found : Option ℕ) → Among found from (length (drop from text)) → found_inside found text from
     place (Some i) is = (is.0, omega (arith, is.0, is.1, length-drop from text))
     place None is = tt
+
+pub place_inside :
+    (byte : ℕ) (text : List ℕ) (from at : ℕ) → Some at ≡ first_from byte text from → (from ≤ at) × (at < length text)
+place_inside byte text from at e =
+    subst (λ (found : Option ℕ). found_inside found text from) (sym e) (found-inside byte text from)
 
 -- a run is no longer than the list
 pub run_inside : (byte : ℕ) (xs : List ℕ) → run byte xs ≤ length xs

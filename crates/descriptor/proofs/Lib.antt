@@ -1,3 +1,4 @@
+pub mod Few
 pub mod Listing
 pub mod Return
 pub mod Turns

@@ -5,9 +5,6 @@ use Rattle.basics.specs.Bytes.{byte_at}
 use Rattle.basics.specs.Choice.{pick}
 use Rattle.fieldtype.specs.Types.{is_wide, type_slots, Types, over, unread, one, types_of}
 use Rattle.descriptor.specs.declared.Params.{Params}
-use Rattle.descriptor.specs.declared.Params.TheVariants.{Read, Unreadable as UnreadableParams}
-use Rattle.descriptor.specs.declared.Slots.{Slots}
-use Rattle.descriptor.specs.declared.Slots.TheVariants.{Slots as SlotsOf, Unreadable as UnreadableSlots}
 
 -- ---- the parameters of a call
 
@@ -17,14 +14,14 @@ slots_of (unread at) = 0
 slots_of (one t rest) = type_slots t + slots_of rest
 
 -- all have to be readable
-unfoldable pub judged : Types → ℕ → Params
-judged (over end) slots = Read slots end
-judged (unread at) slots = UnreadableParams
+unfoldable pub judged : Types → ℕ → Option Params
+judged (over end) slots = Some (record { slots = slots; end = end })
+judged (unread at) slots = None
 judged (one t rest) slots = judged rest slots
 
 -- "starts with `(`; types until `)` or the end"
-unfoldable pub parameters : List ℕ → Params
-parameters text = pick (eqb (byte_at text 0) 40) (judged (types_of text) (slots_of (types_of text))) UnreadableParams
+unfoldable pub parameters : List ℕ → Option Params
+parameters text = pick (eqb (byte_at text 0) 40) (judged (types_of text) (slots_of (types_of text))) None
 
 -- ---- the parameters of a signature: "skipping one byte, until one can't be read"
 
@@ -41,9 +38,9 @@ parameter_at text instance slot = starting_at (types_of text) (pick instance 1 0
 -- ---- the return
 
 -- the index where parameters end that were read
-abbrev pub end_of : Params → Option ℕ
-end_of (Read slots end) = Some end
-end_of UnreadableParams = None
+abbrev pub end_of : Option Params → Option ℕ
+end_of (Some p) = Some p.end
+end_of None = None
 
 -- "Read the parameters and take what follows the parenthesis that ends them." Without one they end with the text, where nothing
 -- follows.
@@ -55,12 +52,12 @@ abbrev pub byte_slots : ℕ → ℕ
 byte_slots x = pick (eqb x 86) 0 (pick (is_wide x) 2 1)
 
 -- "no byte, or no `)`, fails"
-unfoldable pub slots_behind : List ℕ → Option ℕ → Slots
+unfoldable pub slots_behind : List ℕ → Option ℕ → Option ℕ
 slots_behind text (Some close) =
-    pick (leb (length text) (close + 1)) UnreadableSlots (SlotsOf (byte_slots (byte_at text (close + 1))))
-slots_behind text None = UnreadableSlots
+    pick (leb (length text) (close + 1)) None (Some (byte_slots (byte_at text (close + 1))))
+slots_behind text None = None
 
-unfoldable pub return_slots : List ℕ → Slots
+unfoldable pub return_slots : List ℕ → Option ℕ
 return_slots text = slots_behind text (closing text)
 
 -- ---- a field: "2 if it starts with J or D, else 1, also when empty"

@@ -18,8 +18,6 @@ use Rattle.bytesearch.specs.Search.{first_in, first_from, run}
 use Rattle.fieldtype.specs.Types.{brackets, base_type, type_behind, field_type_at, is_wide, type_slots, Types, over, one, types_at, types_of}
 use Rattle.descriptor.specs.Readers.{slots_of, judged, parameters, byte_slots, slots_behind, return_slots, field_slots}
 use Rattle.fieldtype.specs.declared.FieldType.{FieldType}
-use Rattle.descriptor.specs.declared.Params.TheVariants.{Read}
-use Rattle.descriptor.specs.declared.Slots.TheVariants.{Slots as SlotsOf}
 use Rattle.jvms.specs.Descriptor.{BaseType, byte, char, double, float, int, long, short, boolean, letter}
 use Rattle.jvms.specs.Descriptor.{base, class, array, render, render_all, render_return, render_method, dimensions, NoSemicolon, Named, AllWellFormed}
 use Rattle.jvms.specs.Descriptor.{ReturnType, void, typed, MethodType, WellFormedMethod, slots, slots_all}
@@ -294,7 +292,9 @@ module _ {text : List ℕ} where
   listed_slots none = refl
   listed_slots (more rest) = ap₂ ◌+◌ refl (listed_slots rest)
 
-  listed_read : {types : Types} {tolds : List Told} {end : ℕ} → Listed text types tolds end → (n : ℕ) → judged types n ≡ Read n end
+  listed_read :
+      {types : Types} {tolds : List Told} {end : ℕ} → Listed text types tolds end → (n : ℕ) →
+      judged types n ≡ Some (record { slots = n; end = end })
   unfolding judged
   listed_read none n = refl
   listed_read (more rest) n = listed_read rest n
@@ -316,7 +316,7 @@ return_first (typed (base boolean)) = (90, [], refl, refl)
 return_first (typed (class name)) = (76, name ++ (59 ∷ []), refl, refl)
 return_first (typed (array t)) = (91, render t, refl, refl)
 
-behind_closing : (q l : List ℕ) (x : ℕ) → slots_behind (q ++ (41 ∷ (x ∷ l))) (Some (length q)) ≡ SlotsOf (byte_slots x)
+behind_closing : (q l : List ℕ) (x : ℕ) → slots_behind (q ++ (41 ∷ (x ∷ l))) (Some (length q)) ≡ Some (byte_slots x)
 unfolding slots_behind
 behind_closing q l x =
     let same : q ++ (41 ∷ (x ∷ l)) ≡ (q ++ (41 ∷ [])) ++ (x ∷ l) = sym (append_assoc q (41 ∷ []) (x ∷ l)) in
@@ -329,24 +329,26 @@ types_agree : (m : MethodType) → WellFormedMethod m → Listed (render_method 
 unfolding render_method types_of
 types_agree m well = listed (render_return m.result) (40 ∷ []) m.parameters well.parameters
 
-slots_agree : (m : MethodType) → WellFormedMethod m → parameters (render_method m) ≡ Read (slots_all m.parameters) (closing_at m)
+slots_agree :
+    (m : MethodType) → WellFormedMethod m →
+    parameters (render_method m) ≡ Some (record { slots = slots_all m.parameters; end = closing_at m })
 unfolding parameters render_method
 slots_agree m well =
     let types = types_agree m well in
     listed_read types (slots_of (types_of (render_method m)))
-    ∙ ap (λ (n : ℕ). Read n (closing_at m)) (listed_slots types ∙ trees_slots m.parameters)
+    ∙ ap (λ (n : ℕ). Some (record { slots = n; end = closing_at m })) (listed_slots types ∙ trees_slots m.parameters)
 
-behind_parameters : (m : MethodType) → slots_behind (render_method m) (Some (closing_at m)) ≡ SlotsOf (tree_return_slots m.result)
+behind_parameters : (m : MethodType) → slots_behind (render_method m) (Some (closing_at m)) ≡ Some (tree_return_slots m.result)
 unfolding render_method
 behind_parameters m =
     let q : List ℕ = 40 ∷ render_all m.parameters in
     let first = return_first m.result in
     let long : closing_at m ≡ length q = omega arith in
-    rw (first.2, long) (behind_closing q first.1 first.0 ∙ ap SlotsOf first.3)
+    rw (first.2, long) (behind_closing q first.1 first.0 ∙ ap Some first.3)
 
-return_agrees : (m : MethodType) → WellFormedMethod m → return_slots (render_method m) ≡ SlotsOf (tree_return_slots m.result)
+return_agrees : (m : MethodType) → WellFormedMethod m → return_slots (render_method m) ≡ Some (tree_return_slots m.result)
 return_agrees m well =
-    behind_end (render_method m) (slots_all m.parameters) (closing_at m) (slots_agree m well) ∙ behind_parameters m
+    behind_end (render_method m) _ (slots_agree m well) ∙ behind_parameters m
 
 field_agrees : (t : Tree) → field_slots (render t) ≡ slots t
 unfolding field_slots render

@@ -1,6 +1,7 @@
 -- Where a list of parameters ends, and what that says of the return.
 -- Assumes nothing.
 use Rattle.std.specs.Prelude.{Option, Some, None}
+use Rattle.std.proofs.lemmas.Option.{same_Some, none-some}
 use Prim.Native.Nat.{ℕ, zero, suc, ◌+◌, ◌≤◌, ◌<◌}
 use native.Mathlib.Nat.{eq-or-lt_of_le}
 use native.Mathlib.Omega.{arith}
@@ -14,8 +15,7 @@ use borrow.Author.Tests.{eqb-true, le-leb, lt-leb}
 use Rattle.basics.specs.Bytes.{byte_at}
 use Rattle.basics.specs.Choice.{pick}
 use Rattle.descriptor.specs.Readers.{slots_of, judged, parameters, closing, byte_slots, slots_behind, return_slots}
-use Rattle.descriptor.specs.declared.Params.TheVariants.{Read, Unreadable as UnreadableParams}
-use Rattle.descriptor.specs.declared.Slots.TheVariants.{Slots as SlotsOf, Unreadable as NoSlots}
+use Rattle.descriptor.specs.declared.Params.{Params}
 use Rattle.descriptor.proofs.Return.{behind_end, behind_none}
 use Rattle.bytesearch.specs.Search.{first_in, first_from}
 use Rattle.fieldtype.specs.Types.{field_type_at, taken_inside, types_step, list_over, types_from, types_at, types_of}
@@ -37,39 +37,42 @@ not-empty : (text : List ℕ) → byte_at text 0 ≡ 40 → 1 ≤ length text
 not-empty [] e = absurd (omega (arith, e))
 not-empty (x ∷ xs) e = omega arith
 
+ended_at : {n : ℕ} (at : ℕ) (p : Params) → Some (record { slots = n; end = at }) ≡ Some p → at ≡ p.end
+ended_at at p e = ap (λ (q : Params). q.end) (same_Some _ p e)
+
 module _ (text : List ℕ) where
   over_ended : (at : ℕ) → at ≤ length text → list_over text at ≡ true → Ended text at
   over_ended at inside o = (inside, λ below. eqb-true (byte_at text at) 41 (rw (lt-leb (length text) at below) at o))
 
   from_ended :
-      (k at n slots end : ℕ) → at ≤ length text → length text ≤ at + k → judged (types_from text k at) n ≡ Read slots end →
-      Ended text end
+      (k at n : ℕ) (p : Params) → at ≤ length text → length text ≤ at + k → judged (types_from text k at) n ≡ Some p →
+      Ended text p.end
   unfolding types_from judged
-  from_ended zero at n slots end inside enough e =
-      let same : at ≡ end = cc in (omega arith, λ below. absurd (omega arith))
-  from_ended (suc k) at n slots end inside enough e =
+  from_ended zero at n p inside enough e =
+      let same : at ≡ p.end = ended_at at p e in (omega arith, λ below. absurd (omega arith))
+  from_ended (suc k) at n p inside enough e =
       by_step (list_over text at) refl (field_type_at text at) (taken-inside text at) e
-      (λ next onward within. from_ended k next n slots end within (omega arith))
+      (λ next onward within. from_ended k next n p within (omega arith))
     where
       by_step :
           (b : Bool) → list_over text at ≡ b → (t : Option FieldType) → taken_inside t text at →
-          judged (types_step b t at (λ next. types_from text k next)) n ≡ Read slots end →
-          ((next : ℕ) → at < next → next ≤ length text → judged (types_from text k next) n ≡ Read slots end → Ended text end) →
-          Ended text end
-      by_step true o t here q later = let same : at ≡ end = cc in subst (Ended text) same (over_ended at inside o)
+          judged (types_step b t at (λ next. types_from text k next)) n ≡ Some p →
+          ((next : ℕ) → at < next → next ≤ length text → judged (types_from text k next) n ≡ Some p → Ended text p.end) →
+          Ended text p.end
+      by_step true o t here q later = let same : at ≡ p.end = ended_at at p q in subst (Ended text) same (over_ended at inside o)
       by_step false o (Some t) here q later = later t.next (omega (arith, here.onward)) here.within q
-      by_step false o None here q later = let z : ◌≡◌ {A = ℕ} 0 1 = cc in absurd (omega arith)
+      by_step false o None here q later = absurd (none-some p q)
 
-  list_ended : (slots end : ℕ) → parameters text ≡ Read slots end → Ended text end
+  list_ended : (p : Params) → parameters text ≡ Some p → Ended text p.end
   unfolding parameters types_of types_at
-  list_ended slots end e = by_test (eqb (byte_at text 0) 40) refl e
+  list_ended p e = by_test (eqb (byte_at text 0) 40) refl e
     where
       by_test :
           (b : Bool) → eqb (byte_at text 0) 40 ≡ b →
-          pick b (judged (types_from text (length text) 1) (slots_of (types_from text (length text) 1))) UnreadableParams ≡ Read slots end →
-          Ended text end
-      by_test true o q = from_ended (length text) 1 _ slots end (not-empty text (eqb-true (byte_at text 0) 40 o)) (omega arith) q
-      by_test false o q = let z : ◌≡◌ {A = ℕ} 0 1 = cc in absurd (omega arith)
+          pick b (judged (types_from text (length text) 1) (slots_of (types_from text (length text) 1))) None ≡ Some p →
+          Ended text p.end
+      by_test true o q = from_ended (length text) 1 _ p (not-empty text (eqb-true (byte_at text 0) 40 o)) (omega arith) q
+      by_test false o q = absurd (none-some p q)
 
 -- ---- the first parenthesis
 
@@ -114,27 +117,27 @@ plain-if-first text end e = first_alone text end 0 (e ∙ ap Some (omega arith))
 
 -- ---- what that says of the return
 
-module _ (text : List ℕ) (slots end : ℕ) (read : parameters text ≡ Read slots end) where
-  nothing_behind : length text ≤ end + 1 → return_slots text ≡ NoSlots
+module _ (text : List ℕ) (p : Params) (read : parameters text ≡ Some p) where
+  nothing_behind : length text ≤ p.end + 1 → return_slots text ≡ None
   unfolding slots_behind
-  nothing_behind past = behind_end text slots end read ∙ rw (le-leb (length text) (end + 1) past)
+  nothing_behind past = behind_end text p read ∙ rw (le-leb (length text) (p.end + 1) past)
 
-  byte-behind : end + 1 < length text → return_slots text ≡ SlotsOf (byte_slots (byte_at text (end + 1)))
+  byte-behind : p.end + 1 < length text → return_slots text ≡ Some (byte_slots (byte_at text (p.end + 1)))
   unfolding slots_behind
-  byte-behind below = behind_end text slots end read ∙ rw (lt-leb (length text) (end + 1) below)
+  byte-behind below = behind_end text p read ∙ rw (lt-leb (length text) (p.end + 1) below)
 
-  same_place : first_place text ≡ Some end → return_slots text ≡ first_return text
-  same_place first = behind_end text slots end read ∙ ap (slots_behind text) (sym first)
+  same_place : first_place text ≡ Some p.end → return_slots text ≡ first_return text
+  same_place first = behind_end text p read ∙ ap (slots_behind text) (sym first)
 
-  same-if-plain : NoneBefore text end → return_slots text ≡ first_return text
+  same-if-plain : NoneBefore text p.end → return_slots text ≡ first_return text
   unfolding slots_behind
   same-if-plain none =
-      let first : first_place text ≡ first_from 41 text end = first_is text end none in
-      let stop = list_ended text slots end read in
+      let first : first_place text ≡ first_from 41 text p.end = first_is text p.end none in
+      let stop = list_ended text p read in
       ⊎_elim
-      (λ (all : end ≡ length text).
-      nothing_behind (omega arith) ∙ sym (ap (slots_behind text) (first ∙ sym (found_nowhere text end 41 (omega arith)))))
-      (λ (below : end < length text). same_place (first ∙ sym (found_here text end 41 below (stop.1 below))))
+      (λ (all : p.end ≡ length text).
+      nothing_behind (omega arith) ∙ sym (ap (slots_behind text) (first ∙ sym (found_nowhere text p.end 41 (omega arith)))))
+      (λ (below : p.end < length text). same_place (first ∙ sym (found_here text p.end 41 below (stop.1 below))))
       (eq-or-lt_of_le stop.0)
 
 -- ---- the end of the list, the first parenthesis and the last
@@ -153,9 +156,7 @@ unfolding first_place first_from first_in slots_behind render_method render_all 
 not-the-first returns =
     let m : MethodType = record { parameters = class (97 ∷ 41 ∷ 74 ∷ []) ∷ []; result = void } in
     let well : WellFormedMethod m = record { parameters = (lettered 74 (λ e. omega (arith, e)), tt); result = tt } in
-    let wrong : SlotsOf 2 ≡ SlotsOf 0 = returns m well in
-    let z : ◌≡◌ {A = ℕ} 2 0 = cc in
-    omega arith
+    omega (arith, same_Some 2 0 (returns m well))
 
 -- (I)La)V;
 not-the-last : Returns last_place → ⊥
@@ -164,9 +165,7 @@ not-the-last returns =
     let m : MethodType = record { parameters = base int ∷ []; result = typed (class (97 ∷ 41 ∷ 86 ∷ [])) } in
     let whole : WellFormed (base int) = record { named = tt; shallow = lit≤ tt } in
     let well : WellFormedMethod m = record { parameters = (whole, tt); result = lettered 86 (λ e. omega (arith, e)) } in
-    let wrong : SlotsOf 0 ≡ SlotsOf 1 = returns m well in
-    let z : ◌≡◌ {A = ℕ} 0 1 = cc in
-    omega arith
+    omega (arith, same_Some 0 1 (returns m well))
 
 -- ---- the statements
 
@@ -176,8 +175,8 @@ return_place =
       the_end = λ m well. the-end m well;
       not_the_first = not-the-first;
       not_the_last = not-the-last;
-      ends_at_parenthesis = λ text slots end read. (list_ended text slots end read).1;
-      ends_inside = λ text slots end read. (list_ended text slots end read).0;
+      ends_at_parenthesis = λ text p read. (list_ended text p read).1;
+      ends_inside = λ text p read. (list_ended text p read).0;
       none_unread = behind_none;
       none_behind = nothing_behind;
       byte_behind = byte-behind;

@@ -1,12 +1,10 @@
 -- The lenient readers and the grammar of JVMS 4.3 agree on every well-formed descriptor, as statements. proofs/Agree.antt has a
 -- proof of each.
 -- Assumes nothing.
-use Rattle.std.specs.Prelude.{ℕ, ◌+◌, ◌-◌, ◌≡◌, List, [], ◌∷◌, length, take, drop}
+use Rattle.std.specs.Prelude.{ℕ, ◌+◌, ◌-◌, ◌≡◌, List, [], ◌∷◌, length, take, drop, Some}
 use Rattle.descriptor.specs.Readers.{parameters, return_slots, field_slots}
 use Rattle.fieldtype.specs.Types.{Types, over, one, types_of}
 use Rattle.fieldtype.specs.declared.FieldType.{FieldType}
-use Rattle.descriptor.specs.declared.Params.TheVariants.{Read}
-use Rattle.descriptor.specs.declared.Slots.TheVariants.{Slots as SlotsOf}
 use Rattle.jvms.specs.Descriptor.{letter, base, class, array, MethodType, render, render_all, render_method, dimensions}
 use Rattle.jvms.specs.Descriptor.{WellFormed, WellFormedMethod, slots, slots_all}
 use Rattle.jvms.specs.Descriptor.{FieldType as Tree, return_slots as tree_return_slots}
@@ -56,6 +54,8 @@ pub record LenientAgrees : Type 0 where
   pub same_types :
       (m : MethodType) → WellFormedMethod m →
       Listed (render_method m) (types_of (render_method m)) (trees_told m.parameters) (closing_at m)
-  pub same_slots : (m : MethodType) → WellFormedMethod m → parameters (render_method m) ≡ Read (slots_all m.parameters) (closing_at m)
-  pub same_return : (m : MethodType) → WellFormedMethod m → return_slots (render_method m) ≡ SlotsOf (tree_return_slots m.result)
+  pub same_slots :
+      (m : MethodType) → WellFormedMethod m →
+      parameters (render_method m) ≡ Some (record { slots = slots_all m.parameters; end = closing_at m })
+  pub same_return : (m : MethodType) → WellFormedMethod m → return_slots (render_method m) ≡ Some (tree_return_slots m.result)
   pub same_field : (t : Tree) → WellFormed t → field_slots (render t) ≡ slots t

@@ -5,9 +5,7 @@ use Rattle.std.specs.Prelude.{ℕ, ◌+◌, ◌≤◌, ◌<◌, ◌≡◌, List,
 use Rattle.basics.specs.Bytes.{byte_at}
 use Rattle.basics.specs.Choice.{pick}
 use Rattle.descriptor.specs.Readers.{parameters, closing, byte_slots, slots_behind, return_slots}
-use Rattle.descriptor.specs.declared.Params.TheVariants.{Read, Unreadable as UnreadableParams}
-use Rattle.descriptor.specs.declared.Slots.{Slots}
-use Rattle.descriptor.specs.declared.Slots.TheVariants.{Slots as SlotsOf, Unreadable as NoSlots}
+use Rattle.descriptor.specs.declared.Params.{Params}
 use Rattle.bytesearch.specs.Search.{first_from}
 use Rattle.jvms.specs.Descriptor.{MethodType, render_method, WellFormedMethod}
 use Rattle.jvms.specs.Descriptor.{return_slots as tree_return_slots}
@@ -18,7 +16,7 @@ use Rattle.jvms.specs.Descriptor.{return_slots as tree_return_slots}
 unfoldable pub first_place : List ℕ → Option ℕ
 first_place text = first_from 41 text 0
 
-abbrev pub first_return : List ℕ → Slots
+abbrev pub first_return : List ℕ → Option ℕ
 first_return text = slots_behind text (first_place text)
 
 -- the last one
@@ -37,7 +35,7 @@ last_place text = last_in 41 text 0
 abbrev pub Returns : (List ℕ → Option ℕ) → Type 0
 Returns place =
     (m : MethodType) → WellFormedMethod m →
-    slots_behind (render_method m) (place (render_method m)) ≡ SlotsOf (tree_return_slots m.result)
+    slots_behind (render_method m) (place (render_method m)) ≡ Some (tree_return_slots m.result)
 
 -- how often a byte occurs
 abbrev pub occurs : ℕ → List ℕ → ℕ
@@ -57,19 +55,19 @@ pub record ReturnPlace : Type 0 where
   pub not_the_first : Returns first_place → ⊥
   pub not_the_last : Returns last_place → ⊥
   -- parameters that were read end at a parenthesis or with the text
-  pub ends_at_parenthesis : (text : List ℕ) (slots end : ℕ) → parameters text ≡ Read slots end → end < length text → byte_at text end ≡ 41
-  pub ends_inside : (text : List ℕ) (slots end : ℕ) → parameters text ≡ Read slots end → end ≤ length text
+  pub ends_at_parenthesis : (text : List ℕ) (p : Params) → parameters text ≡ Some p → p.end < length text → byte_at text p.end ≡ 41
+  pub ends_inside : (text : List ℕ) (p : Params) → parameters text ≡ Some p → p.end ≤ length text
   -- so there is a return exactly where a byte follows a parenthesis that ends them, and that byte tells its slots
-  pub none_unread : (text : List ℕ) → parameters text ≡ UnreadableParams → return_slots text ≡ NoSlots
+  pub none_unread : (text : List ℕ) → parameters text ≡ None → return_slots text ≡ None
   pub none_behind :
-      (text : List ℕ) (slots end : ℕ) → parameters text ≡ Read slots end → length text ≤ end + 1 → return_slots text ≡ NoSlots
+      (text : List ℕ) (p : Params) → parameters text ≡ Some p → length text ≤ p.end + 1 → return_slots text ≡ None
   pub byte_behind :
-      (text : List ℕ) (slots end : ℕ) → parameters text ≡ Read slots end → end + 1 < length text →
-      return_slots text ≡ SlotsOf (byte_slots (byte_at text (end + 1)))
+      (text : List ℕ) (p : Params) → parameters text ≡ Some p → p.end + 1 < length text →
+      return_slots text ≡ Some (byte_slots (byte_at text (p.end + 1)))
   -- where they end at the first `)` the return is document 01's; so it is of any that were read with plain names, without a `)`, and
   -- only with such they end at the first
   pub same_at_first :
-      (text : List ℕ) (slots end : ℕ) → parameters text ≡ Read slots end → first_place text ≡ Some end → return_slots text ≡ first_return text
+      (text : List ℕ) (p : Params) → parameters text ≡ Some p → first_place text ≡ Some p.end → return_slots text ≡ first_return text
   pub same_if_plain :
-      (text : List ℕ) (slots end : ℕ) → parameters text ≡ Read slots end → NoneBefore text end → return_slots text ≡ first_return text
+      (text : List ℕ) (p : Params) → parameters text ≡ Some p → NoneBefore text p.end → return_slots text ≡ first_return text
   pub plain_if_first : (text : List ℕ) (end : ℕ) → first_place text ≡ Some end → NoneBefore text end

@@ -1,11 +1,10 @@
 -- How many slots lie above the one that a cause is drawn from (document 01, "Action and cause").
 -- Assumes nothing.
-use Rattle.std.specs.Prelude.{ℕ, ◌+◌, List, [], ◌∷◌, eqb, ltb, length}
+use Rattle.std.specs.Prelude.{ℕ, ◌+◌, List, [], ◌∷◌, eqb, ltb, length, Option, Some, None}
 use Rattle.basics.specs.Bytes.{byte_at, u16_at}
 use Rattle.basics.specs.Choice.{pick, one_of, between}
 use Rattle.descriptor.specs.Readers.{parameters, field_slots}
 use Rattle.descriptor.specs.declared.Params.{Params}
-use Rattle.descriptor.specs.declared.Params.TheVariants.{Read, Unreadable}
 use Rattle.effects.specs.Lookup.{Known, missing, known, Lookup}
 
 -- by the opcode: nothing is dereferenced; so many slots; those of the field that is assigned; those of the arguments
@@ -32,9 +31,9 @@ pub data Depth : Type 0 where
   nowhere : Depth
   at : ℕ → Depth
 
-abbrev pub readable : Params → Depth
-readable (Read slots end) = at slots
-readable Unreadable = nowhere
+abbrev pub readable : Option Params → Depth
+readable (Some p) = at p.slots
+readable None = nowhere
 
 abbrev pub field_depth : Known → (List ℕ → ℕ) → Depth
 field_depth missing depth = nowhere

@@ -1,5 +1,6 @@
 -- What the faulting instruction decodes to, by the tests that the code makes.
 -- Assumes nothing.
+use Rattle.std.specs.Prelude.{Some, None}
 use Prim.Native.Nat.{ℕ, ◌+◌, ◌-◌, ◌≤◌, ◌<◌}
 use native.Mathlib.Nat.{eq-or-lt_of_le}
 use native.Mathlib.Omega.{arith}
@@ -16,7 +17,7 @@ use Rattle.basics.specs.Choice.{pick, both, one_of, same_list}
 use Rattle.items.specs.Text.{name_of, descriptor_of}
 use Rattle.lookup.specs.Lookup.{member_found}
 use Rattle.descriptor.specs.Readers.{parameters, field_slots}
-use Rattle.descriptor.specs.declared.Params.TheVariants.{Read, Unreadable}
+use Rattle.descriptor.specs.declared.Params.{Params}
 use Rattle.effects.specs.Depth.{Rule, none, fixed, reads, writes, invokes as invokes_rule, rule_of, depth_by, depth_of}
 use Rattle.effects.specs.Lookup.{lookup_in}
 use Rattle.fault.specs.Decoding.{invokes, action_of, constructs, failed_at, decoded}
@@ -89,16 +90,16 @@ module _ (code members : List ℕ) (count fault : ℕ) where
         constructor test = rw (lt-ltb (fault + 2) (length code) whole, ← cites, ← found, known_some texts some, test)
 
         module _ (other : same_list (name_of texts) (ascii "<init>") ≡ false) where
-          pub invoke_unread : parameters (descriptor_of texts) ≡ Unreadable → Nothing ≡ decoded_as 182 code members count fault
+          pub invoke_unread : parameters (descriptor_of texts) ≡ None → Nothing ≡ decoded_as 182 code members count fault
           unfolding decoded_as rule_of action_of lookup_in constructs
           invoke_unread p = rw (lt-ltb (fault + 2) (length code) whole, ← cites, ← found, known_some texts some, other, p)
 
           pub invokes_method :
-              (slots end : ℕ) → parameters (descriptor_of texts) ≡ Read slots end →
-              Failed (Invoke index) slots ≡ decoded_as 182 code members count fault
+              (p : Params) → parameters (descriptor_of texts) ≡ Some p →
+              Failed (Invoke index) p.slots ≡ decoded_as 182 code members count fault
           unfolding decoded_as rule_of action_of lookup_in constructs
-          invokes_method slots end p =
-              rw (lt-ltb (fault + 2) (length code) whole, ← cites, ← found, known_some texts some, other, p)
+          invokes_method p e =
+              rw (lt-ltb (fault + 2) (length code) whole, ← cites, ← found, known_some texts some, other, e)
 
   -- ---- opcodes
 

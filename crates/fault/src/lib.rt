@@ -11,7 +11,6 @@ ghost use Rattle.fault.specs.declared.Fault.TheVariants.{Failed};
 
 use check::same;
 use depth::store_depth;
-use descriptor::Params;
 use opcode::Opcode;
 
 // The nine action forms. A member is named by its pool index, an element type by its place in the order of the opcodes.
@@ -88,14 +87,12 @@ fn invoke_fault(code: &[u8], members: &[u8], count: usize, fault: usize) -> Faul
     if same(items::name_of(texts), b"<init>") {
         return Fault::Nothing;
     }
-    let Params::Read { slots, end: _ } = descriptor::parse_method_params(items::descriptor_of(
-        texts,
-    )) else {
+    let Some(params) = descriptor::parse_method_params(items::descriptor_of(texts)) else {
         return Fault::Nothing;
     };
     Fault::Failed {
         action: Action::Invoke { index },
-        depth: slots,
+        depth: params.slots,
     }
 }
 

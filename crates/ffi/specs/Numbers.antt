@@ -1,6 +1,6 @@
 -- The C interface over a case: what its functions answer, as structs of numbers (crates/structs), and what they leave in lent slices.
 -- Assumes nothing.
-use Rattle.std.specs.Prelude.{ℕ, List, replicate, Result, Ok, Err}
+use Rattle.std.specs.Prelude.{ℕ, List, replicate, Result, Ok, Err, Option, Some, None}
 use Rattle.effects.specs.declared.Model.{Model}
 use Rattle.effects.specs.declared.Model.TheVariants.{Document}
 use Rattle.walk.specs.Room.{Roomed, block_walk_in, answer_of, cells_of}
@@ -9,7 +9,6 @@ use Rattle.casefile.specs.declared.Places.{Places}
 use Rattle.casefile.specs.declared.CaseError.{CaseError}
 use Rattle.casefile.specs.declared.CaseError.TheVariants as cases
 use Rattle.descriptor.specs.declared.Params.{Params}
-use Rattle.descriptor.specs.declared.Params.TheVariants.{Read, Unreadable as NoParams}
 use Rattle.locals.specs.Name.{is_instance, local_name}
 use Rattle.names.specs.Names.{parameter_names}
 use Rattle.answer.specs.Answer.{Said, said, answer_by, output_by}
@@ -62,10 +61,10 @@ case_named bytes local load out (Ok places) = output_by (spoken (name_in (parts_
 case_named bytes local load out (Err error) = out
 
 -- 1 unreadable
-abbrev pub parameter_numbers : List ℕ → ℕ → Params → KorsepalParameters
-parameter_numbers text room (Read slots end) = list_numbers slots (answer_by (spoken (parameter_names text)) room)
-parameter_numbers text room NoParams = record { status = 1; slots = 0; length = 0 }
+abbrev pub parameter_numbers : List ℕ → ℕ → Option Params → KorsepalParameters
+parameter_numbers text room (Some p) = list_numbers p.slots (answer_by (spoken (parameter_names text)) room)
+parameter_numbers text room None = record { status = 1; slots = 0; length = 0 }
 
-abbrev pub parameters_in : List ℕ → List ℕ → Params → List ℕ
-parameters_in text out (Read slots end) = output_by (spoken (parameter_names text)) out
-parameters_in text out NoParams = out
+abbrev pub parameters_in : List ℕ → List ℕ → Option Params → List ℕ
+parameters_in text out (Some p) = output_by (spoken (parameter_names text)) out
+parameters_in text out None = out

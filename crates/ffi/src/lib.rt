@@ -1,7 +1,7 @@
 // The C interface of the library: numbers and slices in, structs of numbers out. Every function takes any input.
 #![tactic(auto)]
 
-ghost use Rattle.std.specs.Prelude.{◌≡◌, [], length, replicate};
+ghost use Rattle.std.specs.Prelude.{◌≡◌, [], length, replicate, Some};
 ghost use Rattle.bytecode.specs.Length.{length_of};
 ghost use Rattle.casefile.specs.Whole.{case_of};
 ghost use Rattle.jdescriptor.specs.Answer.{answer as answer_to, written};
@@ -9,7 +9,6 @@ ghost use Rattle.judging.specs.Reading.{type_reading, method_reading};
 ghost use Rattle.locals.specs.Name.{local_name};
 ghost use Rattle.names.specs.Names.{parameter_names};
 ghost use Rattle.descriptor.specs.Readers.{parameters, return_slots, field_slots};
-ghost use Rattle.descriptor.specs.declared.Slots.TheVariants.{Slots as SlotsOf};
 ghost use Rattle.leader.specs.Scan.{block_leader};
 ghost use Rattle.answer.specs.Answer.{answer_by, output_by};
 ghost use Rattle.effects.specs.declared.Model.TheVariants.{Full};
@@ -19,7 +18,6 @@ ghost use Rattle.ffi.specs.Numbers.{case_walk, case_cells, case_walk_in, case_ce
 
 use casefile::CaseError;
 use cell::clear;
-use descriptor::Params;
 use effects::Model;
 use items::part_at;
 use structs::{
@@ -106,7 +104,7 @@ pub extern "C" fn korsepal_return_slots(descriptor: &[u8]) -> KorsepalSlots
 // The slots of a field.
 #[unsafe(no_mangle)]
 pub extern "C" fn korsepal_field_slots(descriptor: &[u8]) -> KorsepalSlots
-    ensures { result ≡ slot_numbers (SlotsOf (field_slots descriptor.now)) }
+    ensures { result ≡ slot_numbers (Some (field_slots descriptor.now)) }
 {
     KorsepalSlots {
         status: 0,
@@ -210,7 +208,7 @@ pub extern "C" fn korsepal_parameters(descriptor: &[u8], output: &mut [u8]) -> K
     ensures answers { result ≡ parameter_numbers descriptor.now (length output.old) (parameters descriptor.now) }
     ensures leaves { output.new ≡ parameters_in descriptor.now output.old (parameters descriptor.now) }
 {
-    let Params::Read { slots, end: _ } = descriptor::parse_method_params(descriptor) else {
+    let Some(params) = descriptor::parse_method_params(descriptor) else {
         return KorsepalParameters {
             status: 1,
             slots: 0,
@@ -229,7 +227,7 @@ pub extern "C" fn korsepal_parameters(descriptor: &[u8], output: &mut [u8]) -> K
     names::put_params_at(output, 0, descriptor);
     KorsepalParameters {
         status: 0,
-        slots: slots as u64,
+        slots: params.slots as u64,
         length: needed as u64,
     }
 }

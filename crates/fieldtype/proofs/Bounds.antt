@@ -3,7 +3,7 @@
 use Rattle.std.specs.Prelude.{Option, Some, None}
 use Prim.Native.Nat.{ℕ, ◌+◌, ◌<◌}
 use native.Mathlib.Omega.{arith}
-use mathlib.Core.Path.{◌≡◌, refl}
+use mathlib.Core.Path.{◌≡◌, refl, sym, subst}
 use mathlib.Core.Bool.{Bool, true, false}
 use mathlib.Core.List.{List}
 use lib.Dec.{eqb, leb}
@@ -14,7 +14,7 @@ use Rattle.basics.specs.Bytes.{byte_at}
 use Rattle.basics.specs.Choice.{pick}
 use Rattle.bytesearch.specs.Search.{first_from, found_inside}
 use Rattle.bytesearch.proofs.Search.{found-inside}
-use Rattle.fieldtype.specs.Types.{brackets, class_type, base_type, type_behind, field_type_at, taken_inside}
+use Rattle.fieldtype.specs.Types.{brackets, class_type, base_type, type_behind, field_type_at, taken_inside, Inside}
 use Rattle.fieldtype.specs.declared.FieldType.{FieldType}
 
 module _ (text : List ℕ) (at dims base : ℕ) (passed : base ≡ at + dims) where
@@ -51,3 +51,6 @@ taken-inside text at =
     by_length text at dims base refl (leb (length text) base) refl
     (pick (eqb letter 76) (class_type dims (base + 1) f) (base_type letter dims (base + 1) g))
     (λ inside. by_letter text at dims base refl (eqb letter 76) letter f g inside (found-inside 59 text (base + 1)))
+
+pub type_inside : (text : List ℕ) (at : ℕ) (t : FieldType) → Some t ≡ field_type_at text at → Inside t text at
+type_inside text at t e = subst (λ (taken : Option FieldType). taken_inside taken text at) (sym e) (taken-inside text at)

@@ -45,3 +45,6 @@ module _ (text : List ℕ) (at base : ℕ) (passed : base ≡ at + brackets (dro
   unfolding type_behind
   base_letter k inside other some =
       rw (behind, lt-leb (length text) base inside, ne_eqb (byte_at text base) 76 other, ← some)
+
+-- for `parse_field_type`
+pub ruleset read = (nothing_behind, class_unended, class_ended, no_letter, base_letter)

@@ -17,25 +17,22 @@ pub struct FieldType {
 }
 
 // The type at an index: any number of dimensions, and a name up to the first semicolon, which may be empty.
+#[tactic(auto, using(bytesearch::proofs::Search::place_inside, crate::proofs::OneType::read))]
 pub fn parse_field_type(text: &[u8], at: usize) -> Option<FieldType>
     ensures { result ≡ field_type_at text.now at }
 {
     let base = after_run(text, b'[', at);
-    if text.len() <= base {
-        return None;
-    }
-    let letter = text[base];
+    let letter = *text.get(base)?;
     let dims = base - at;
     let from = base + 1;
     if letter == b'L' {
         let to = find_byte(text, b';', from)?;
-        let next = to + 1;
         return Some(FieldType {
             letter,
             dims,
             from,
             to,
-            next,
+            next: to + 1,
         });
     }
     find_byte(b"BCDFIJSZ", letter, 0)?;
@@ -52,10 +49,7 @@ pub fn parse_field_type(text: &[u8], at: usize) -> Option<FieldType>
 pub fn is_wide(letter: u8) -> bool
     ensures { result ≡ is_wide letter }
 {
-    if letter == b'J' {
-        return true;
-    }
-    letter == b'D'
+    letter == b'J' || letter == b'D'
 }
 
 // The slots of a type.
@@ -63,10 +57,9 @@ pub fn is_wide(letter: u8) -> bool
 pub fn type_slots(t: FieldType) -> usize
     ensures { result ≡ type_slots t }
 {
-    if t.dims == 0 {
-        if is_wide(t.letter) {
-            return 2;
-        }
+    if t.dims == 0 && is_wide(t.letter) {
+        2
+    } else {
+        1
     }
-    1
 }

@@ -1,6 +1,6 @@
 -- What an effect is, by the tests that the code makes of its operands and its member.
 -- Assumes nothing.
-use Rattle.std.specs.Prelude.{Some}
+use Rattle.std.specs.Prelude.{Some, None}
 use Prim.Native.Nat.{ℕ, ◌+◌, ◌≤◌, ◌<◌}
 use native.Mathlib.Omega.{arith}
 use mathlib.Core.Path.{◌≡◌, refl, ◌∙◌, sym, ap}
@@ -12,8 +12,7 @@ use borrow.Author.Tests.{lt-ltb, le-ltb, eq-eqb, ne_eqb}
 use Rattle.basics.specs.Bytes.{byte_at, u16_at}
 use Rattle.basics.specs.Choice.{pick}
 use Rattle.descriptor.specs.Readers.{parameters, slots_behind, field_slots}
-use Rattle.descriptor.specs.declared.Params.TheVariants.{Read, Unreadable as NoParams}
-use Rattle.descriptor.specs.declared.Slots.TheVariants.{Slots as SlotsOf, Unreadable as NoSlots}
+use Rattle.descriptor.specs.declared.Params.{Params}
 use Rattle.descriptor.proofs.Return.{behind_end}
 use Rattle.items.specs.Text.{descriptor_of}
 use Rattle.index.specs.Index.{found_by}
@@ -85,25 +84,25 @@ module _ (by : Known → Effect) (found texts : List ℕ) where
 -- the slots of a cited field, where the code found no texts, or some
 module _ (found texts : List ℕ) where
   no_slots :
-      (b : Bool) → texts ≡ pick b found [] → length texts ≡ 0 → NoSlots ≡ pick b (slots_known (known_by found)) NoSlots
+      (b : Bool) → texts ≡ pick b found [] → length texts ≡ 0 → None ≡ pick b (slots_known (known_by found)) None
   no_slots true e none = rw (← e, known_none texts none)
   no_slots false e none = refl
 
   some_slots :
       (b : Bool) (slots : ℕ) → texts ≡ pick b found [] → (length texts ≡ 0 → ⊥) → slots ≡ field_slots (descriptor_of texts) →
-      SlotsOf slots ≡ pick b (slots_known (known_by found)) NoSlots
-  some_slots true slots e some is = rw (← e, known_some texts some) (ap SlotsOf is)
+      Some slots ≡ pick b (slots_known (known_by found)) None
+  some_slots true slots e some is = rw (← e, known_some texts some) (ap Some is)
   some_slots false slots e some is = absurd (some (ap length e))
 
 module _ (code : List ℕ) (pc : ℕ) (members : List ℕ) (count : ℕ) (table texts : List ℕ)
     (is : texts ≡ cited_texts members count table code pc 0) where
-  pub cited_none : length texts ≡ 0 → NoSlots ≡ cited_slots (lookup_by members count table) code pc
+  pub cited_none : length texts ≡ 0 → None ≡ cited_slots (lookup_by members count table) code pc
   unfolding lookup_by
   cited_none none = no_slots _ texts (ltb (pc + 2) (length code)) is none
 
   pub cited_some :
       (slots : ℕ) → (length texts ≡ 0 → ⊥) → slots ≡ field_slots (descriptor_of texts) →
-      SlotsOf slots ≡ cited_slots (lookup_by members count table) code pc
+      Some slots ≡ cited_slots (lookup_by members count table) code pc
   unfolding lookup_by
   cited_some slots some e = some_slots _ texts (ltb (pc + 2) (length code)) slots is some e
 
@@ -112,13 +111,13 @@ module _ (code : List ℕ) (pc : ℕ) (members : List ℕ) (count : ℕ) (table 
 module _ (by : Known → Effect) (of : ℕ → Effect) (none : fails not_modelled ≡ bare (by missing))
     (some : (descriptor : List ℕ) → by (known descriptor) ≡ of (field_slots descriptor)) where
   unread_so :
-      (b : Bool) (k : Known) → pick b (slots_known k) NoSlots ≡ NoSlots → fails not_modelled ≡ bare (pick b (by k) (fails cut))
+      (b : Bool) (k : Known) → pick b (slots_known k) None ≡ None → fails not_modelled ≡ bare (pick b (by k) (fails cut))
   unread_so true missing e = none
   unread_so true (known descriptor) e = let z : ◌≡◌ {A = ℕ} 0 1 = cc in absurd (omega arith)
   unread_so false k e = refl
 
   read_so :
-      (b : Bool) (k : Known) (slots : ℕ) → pick b (slots_known k) NoSlots ≡ SlotsOf slots →
+      (b : Bool) (k : Known) (slots : ℕ) → pick b (slots_known k) None ≡ Some slots →
       bare (of slots) ≡ bare (pick b (by k) (fails cut))
   read_so true missing slots e = let z : ◌≡◌ {A = ℕ} 0 1 = cc in absurd (omega arith)
   read_so true (known descriptor) slots e =
@@ -127,25 +126,25 @@ module _ (by : Known → Effect) (of : ℕ → Effect) (none : fails not_modelle
   read_so false k slots e = let z : ◌≡◌ {A = ℕ} 0 1 = cc in absurd (omega arith)
 
 module _ (code : List ℕ) (pc : ℕ) (lookup : Lookup) (takes : ℕ) where
-  pub get_none : cited_slots lookup code pc ≡ NoSlots → fails not_modelled ≡ bare (effect_by lookup code pc (gets takes))
+  pub get_none : cited_slots lookup code pc ≡ None → fails not_modelled ≡ bare (effect_by lookup code pc (gets takes))
   get_none =
       unread_so (getting takes) (λ n. does takes (blanks n)) refl (λ d. refl) (ltb (pc + 2) (length code))
       (lookup 0 (u16_at code (pc + 1)))
 
   pub got :
-      (slots : ℕ) → cited_slots lookup code pc ≡ SlotsOf slots →
+      (slots : ℕ) → cited_slots lookup code pc ≡ Some slots →
       does takes (blanks slots) ≡ bare (effect_by lookup code pc (gets takes))
   got =
       read_so (getting takes) (λ n. does takes (blanks n)) refl (λ d. refl) (ltb (pc + 2) (length code))
       (lookup 0 (u16_at code (pc + 1)))
 
-  pub put_none : cited_slots lookup code pc ≡ NoSlots → fails not_modelled ≡ bare (effect_by lookup code pc (puts takes))
+  pub put_none : cited_slots lookup code pc ≡ None → fails not_modelled ≡ bare (effect_by lookup code pc (puts takes))
   put_none =
       unread_so (putting takes) (λ n. does (takes + n) (blanks 0)) refl (λ d. refl) (ltb (pc + 2) (length code))
       (lookup 0 (u16_at code (pc + 1)))
 
   pub put :
-      (slots : ℕ) → cited_slots lookup code pc ≡ SlotsOf slots →
+      (slots : ℕ) → cited_slots lookup code pc ≡ Some slots →
       does (takes + slots) (blanks 0) ≡ bare (effect_by lookup code pc (puts takes))
   put =
       read_so (putting takes) (λ n. does (takes + n) (blanks 0)) refl (λ d. refl) (ltb (pc + 2) (length code))
@@ -163,22 +162,22 @@ module _ (code : List ℕ) (pc : ℕ) (members : List ℕ) (count : ℕ) (table 
     call_none none = none_known (calling takes) _ texts (ltb (pc + 2) (length code)) is none refl
 
     module _ (some : length texts ≡ 0 → ⊥) where
-      pub call_unread : parameters (descriptor_of texts) ≡ NoParams → Calls (fails not_modelled)
+      pub call_unread : parameters (descriptor_of texts) ≡ None → Calls (fails not_modelled)
       unfolding lookup_by
-      call_unread p = some_known (calling takes) _ texts (ltb (pc + 2) (length code)) _ is some (rw p)
+      call_unread e = some_known (calling takes) _ texts (ltb (pc + 2) (length code)) _ is some (rw e)
 
       pub call_endless :
-          (args end : ℕ) → parameters (descriptor_of texts) ≡ Read args end →
-          slots_behind (descriptor_of texts) (Some end) ≡ NoSlots → Calls (fails not_modelled)
+          (p : Params) → parameters (descriptor_of texts) ≡ Some p →
+          slots_behind (descriptor_of texts) (Some p.end) ≡ None → Calls (fails not_modelled)
       unfolding lookup_by
-      call_endless args end p r =
+      call_endless p e r =
           some_known (calling takes) _ texts (ltb (pc + 2) (length code)) _ is some
-          (rw (p, behind_end (descriptor_of texts) args end p ∙ r))
+          (rw (e, behind_end (descriptor_of texts) p e ∙ r))
 
       pub called :
-          (args end gives : ℕ) → parameters (descriptor_of texts) ≡ Read args end →
-          slots_behind (descriptor_of texts) (Some end) ≡ SlotsOf gives → Calls (does (takes + args) (blanks gives))
+          (p : Params) (gives : ℕ) → parameters (descriptor_of texts) ≡ Some p →
+          slots_behind (descriptor_of texts) (Some p.end) ≡ Some gives → Calls (does (takes + p.slots) (blanks gives))
       unfolding lookup_by
-      called args end gives p r =
+      called p gives e r =
           some_known (calling takes) _ texts (ltb (pc + 2) (length code)) _ is some
-          (rw (p, behind_end (descriptor_of texts) args end p ∙ r))
+          (rw (e, behind_end (descriptor_of texts) p e ∙ r))

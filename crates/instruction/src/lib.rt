@@ -10,7 +10,6 @@ ghost use Rattle.walk.specs.Worked.{nothing};
 ghost use Rattle.instruction.specs.Code.{effect_from, bare};
 ghost use Rattle.instruction.specs.Lookup.{lookup_by, cited_texts, cited_slots};
 
-use descriptor::{Params, Slots};
 use effects::Model;
 use key::Key;
 use row::Row;
@@ -76,17 +75,24 @@ fn cited_texts<'a>(
 }
 
 // The slots of the field that the instruction at pc cites.
-fn cited_slots(code: &[u8], members: &[u8], count: usize, table: &[usize], pc: usize) -> Slots
+fn cited_slots(
+    code: &[u8],
+    members: &[u8],
+    count: usize,
+    table: &[usize],
+    pc: usize,
+) -> Option<usize>
     ensures { result ≡ cited_slots (lookup_by members.now count table.now) code.now pc }
 {
     let texts = cited_texts(code, members, count, table, pc, 0);
     if texts.len() == 0 {
-        return Slots::Unreadable;
+        return None;
     }
-    Slots::Slots(descriptor::slots_of_field_type(items::descriptor_of(texts)))
+    Some(descriptor::slots_of_field_type(items::descriptor_of(texts)))
 }
 
 // The effect of reading the field that the instruction at pc cites.
+#[tactic(auto, using(crate::proofs::Effects::get_none, crate::proofs::Effects::got))]
 fn get_effect(
     code: &[u8],
     members: &[u8],
@@ -98,13 +104,12 @@ fn get_effect(
     ensures { effect_from result ≡ bare (effect_by (lookup_by members.now count table.now)
         code.now pc (gets_row takes)) }
 {
-    let Slots::Slots(gives) = cited_slots(code, members, count, table, pc) else {
-        return None;
-    };
+    let gives = cited_slots(code, members, count, table, pc)?;
     Some(Effect::Opaque { takes, gives })
 }
 
 // The effect of writing the field that the instruction at pc cites.
+#[tactic(auto, using(crate::proofs::Effects::put_none, crate::proofs::Effects::put, crate::proofs::Slots::few_cited))]
 fn put_effect(
     code: &[u8],
     members: &[u8],
@@ -117,9 +122,7 @@ fn put_effect(
     ensures { effect_from result ≡ bare (effect_by (lookup_by members.now count table.now)
         code.now pc (puts_row takes)) }
 {
-    let Slots::Slots(slots) = cited_slots(code, members, count, table, pc) else {
-        return None;
-    };
+    let slots = cited_slots(code, members, count, table, pc)?;
     Some(Effect::Opaque {
         takes: takes + slots,
         gives: 0,
@@ -161,14 +164,10 @@ fn call_effect(
         return None;
     }
     let signature = items::descriptor_of(texts);
-    let Params::Read { slots: args, end } = descriptor::parse_method_params(signature) else {
-        return None;
-    };
-    let Slots::Slots(gives) = descriptor::slots_behind(signature, end) else {
-        return None;
-    };
+    let params = descriptor::parse_method_params(signature)?;
+    let gives = descriptor::slots_behind(signature, params.end)?;
     Some(Effect::Opaque {
-        takes: takes + args,
+        takes: takes + params.slots,
         gives,
     })
 }

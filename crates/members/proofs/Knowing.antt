@@ -7,8 +7,8 @@ use mathlib.Core.List.{List}
 use lib.ListN.{length}
 use borrow.Author.Tests.{eq-eqb, ne_eqb}
 use Rattle.descriptor.specs.Readers.{parameters, slots_behind}
-use Rattle.descriptor.specs.declared.Params.TheVariants.{Read as ReadParams, Unreadable as NoParams}
-use Rattle.descriptor.specs.declared.Slots.TheVariants.{Slots as SlotsOf, Unreadable as NoSlots}
+use Rattle.descriptor.specs.declared.Params.{Params}
+use Rattle.descriptor.proofs.Few.{few_slots}
 use Rattle.descriptor.proofs.Return.{behind_end}
 use Rattle.items.specs.Text.{descriptor_of}
 use Rattle.index.specs.Index.{found_by}
@@ -18,7 +18,6 @@ use Rattle.entries.specs.declared.Resolved.{Resolved}
 use Rattle.effects.specs.Lookup.{missing, known}
 use Rattle.effects.proofs.Known.{known_none, known_some}
 use Rattle.members.specs.Members.{lookup_by, pool_lookup, signature_of}
-use Rattle.members.specs.declared.Call.TheVariants.{Read, Unreadable}
 
 -- ---- in a run: texts, what the code found
 
@@ -51,15 +50,22 @@ module _ (file table : List ℕ) (kind index : ℕ) where
 -- ---- the slots of a call, by its descriptor
 
 module _ (descriptor : List ℕ) where
-  pub unread : parameters descriptor ≡ NoParams → Unreadable ≡ signature_of descriptor
-  unread p = rw p
+  pub unread : parameters descriptor ≡ None → None ≡ signature_of descriptor
+  unread e = rw e
 
   pub endless :
-      (args end : ℕ) → parameters descriptor ≡ ReadParams args end → slots_behind descriptor (Some end) ≡ NoSlots →
-      Unreadable ≡ signature_of descriptor
-  endless args end p r = rw (p, behind_end descriptor args end p ∙ r)
+      (p : Params) → parameters descriptor ≡ Some p → slots_behind descriptor (Some p.end) ≡ None →
+      None ≡ signature_of descriptor
+  endless p e r = rw (e, behind_end descriptor p e ∙ r)
 
   pub read :
-      (args end gives : ℕ) → parameters descriptor ≡ ReadParams args end → slots_behind descriptor (Some end) ≡ SlotsOf gives →
-      Read args gives ≡ signature_of descriptor
-  read args end gives p r = rw (p, behind_end descriptor args end p ∙ r)
+      (p : Params) (gives : ℕ) → parameters descriptor ≡ Some p → slots_behind descriptor (Some p.end) ≡ Some gives →
+      Some (record { args = p.slots; gives = gives }) ≡ signature_of descriptor
+  read p gives e r = rw (e, behind_end descriptor p e ∙ r)
+
+-- for `signature_slots`, and for what reads a run or a pool
+pub ruleset called = (few_slots, unread, endless, read)
+
+pub ruleset in_run = (run_none, run_some)
+
+pub ruleset in_pool = (pool_none, pool_other, pool_some)

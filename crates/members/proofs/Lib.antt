@@ -1,3 +1,2 @@
 pub mod Knowing
 pub mod Laws
-pub mod Slots

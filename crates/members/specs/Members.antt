@@ -5,9 +5,6 @@ use Rattle.std.specs.Prelude.{ℕ, ◌+◌, ◌^◌, ◌<◌, List, eqb, Option,
 use Rattle.basics.specs.Choice.{pick}
 use Rattle.descriptor.specs.Readers.{parameters, return_slots, field_slots}
 use Rattle.descriptor.specs.declared.Params.{Params}
-use Rattle.descriptor.specs.declared.Params.TheVariants.{Read as ReadParams, Unreadable as NoParams}
-use Rattle.descriptor.specs.declared.Slots.{Slots}
-use Rattle.descriptor.specs.declared.Slots.TheVariants.{Slots as SlotsOf, Unreadable as NoSlots}
 use Rattle.index.specs.Index.{Indexed, found_by}
 use Rattle.classformat.specs.Contents.{spelled}
 use Rattle.entries.specs.Entries.{entry_by, names_by, resolved_by}
@@ -16,7 +13,6 @@ use Rattle.effects.specs.Lookup.{Known, missing, known, Lookup, known_by, lookup
 use Rattle.members.specs.declared.Source.{Source}
 use Rattle.members.specs.declared.Source.TheVariants.{Run, Pool}
 use Rattle.members.specs.declared.Call.{Call}
-use Rattle.members.specs.declared.Call.TheVariants.{Read, Unreadable}
 
 -- ---- the lookup
 
@@ -52,24 +48,24 @@ Served Pool bytes count table = Unit {0}
 -- ---- slots
 
 -- of a field, as far as it is known
-abbrev pub slots_known : Known → Slots
-slots_known missing = NoSlots
-slots_known (known descriptor) = SlotsOf (field_slots descriptor)
+abbrev pub slots_known : Known → Option ℕ
+slots_known missing = None
+slots_known (known descriptor) = Some (field_slots descriptor)
 
 -- of a call, where both its parameters and its return can be read
-abbrev pub call_of : Params → Slots → Call
-call_of (ReadParams args end) (SlotsOf gives) = Read args gives
-call_of (ReadParams args end) NoSlots = Unreadable
-call_of NoParams result = Unreadable
+abbrev pub call_of : Option Params → Option ℕ → Option Call
+call_of (Some p) (Some gives) = Some (record { args = p.slots; gives = gives })
+call_of (Some p) None = None
+call_of None result = None
 
-abbrev pub signature_of : List ℕ → Call
+abbrev pub signature_of : List ℕ → Option Call
 signature_of descriptor = call_of (parameters descriptor) (return_slots descriptor)
 
-abbrev pub call_known : Known → Call
-call_known missing = Unreadable
+abbrev pub call_known : Known → Option Call
+call_known missing = None
 call_known (known descriptor) = signature_of descriptor
 
 -- one slot more than the arguments have can be counted
-abbrev pub Few : Call → Type 0
-Few (Read args gives) = args + 1 < 2 ^ 64
-Few Unreadable = Unit {0}
+abbrev pub Few : Option Call → Type 0
+Few (Some call) = call.args + 1 < 2 ^ 64
+Few None = Unit {0}

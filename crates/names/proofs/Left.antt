@@ -13,7 +13,9 @@ use Rattle.basics.specs.Choice.{pick}
 use Rattle.fieldtype.specs.Types.{over, unread, one, types_at, types_of}
 use Rattle.fieldtype.specs.declared.FieldType.{FieldType}
 use Rattle.text.specs.Writing.{most, Written}
-use Rattle.text.proofs.Writing.{written_then, written_none}
+use Rattle.text.proofs.Writing.{written_then, written_none, written_length}
+use Rattle.fieldtype.proofs.Bounds.{type_inside}
+use Rattle.descriptor.proofs.Listing.{list_one}
 use Rattle.names.specs.Names.{type_name, type_names, commaed, joined, parameter_names}
 use Rattle.names.specs.Commas.{comma_before}
 
@@ -87,3 +89,6 @@ module _ {text : List ℕ} {at : ℕ} {out : List ℕ} {index next : ℕ} {now :
 
   pub unread_now : (place : ℕ) → types_at text index ≡ unread place → Written at (parameter_names text) out next now
   unread_now place e = all_done (left_unread text index place e)
+
+-- for a turn of `put_params_at`
+pub ruleset listed = (type_inside, list_one, at_first, one_more, written_length)

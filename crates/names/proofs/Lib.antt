@@ -1,3 +1,2 @@
 pub mod Bytewise
-pub mod Eight
 pub mod Left

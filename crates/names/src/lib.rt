@@ -1,77 +1,32 @@
 // Class names, type names and parameter lists, as the messages print them (document 01, "Action and cause").
 #![tactic(auto)]
 
-ghost use Rattle.std.specs.Prelude.{◌≡◌, [], ◌++◌, ◌-◌, ◌%◌, ◌≤◌, ◌<◌, eqb, length, take, drop, get_or};
+ghost use Rattle.std.specs.Prelude.{◌≡◌, ◌++◌, ◌%◌, ◌≤◌, eqb, length};
 ghost use Rattle.basics.specs.Choice.{pick};
 ghost use Rattle.text.specs.Writing.{Written};
 ghost use Rattle.names.specs.Commas.{comma_before};
-ghost use Rattle.names.specs.Names.{base_names, base_name, bracket_pairs, element_name, type_name, parameter_names};
+ghost use Rattle.names.specs.Names.{base_name, bracket_pairs, element_name, type_name, parameter_names};
 
 use classname::put_class_name;
 use fieldtype::FieldType;
 use text::{put, put_at};
 
-// A base type's name: its length, its bytes and zeros.
-#[derive(Clone, Copy)]
-pub struct BaseName {
-    pub len: usize,
-    pub bytes: [u8; 7],
-}
-
-// In the order of the letters B C D F I J S Z.
-const BASE_NAMES: [BaseName; 8] = [
-    BaseName {
-        len: 4,
-        bytes: *b"byte\0\0\0",
-    },
-    BaseName {
-        len: 4,
-        bytes: *b"char\0\0\0",
-    },
-    BaseName {
-        len: 6,
-        bytes: *b"double\0",
-    },
-    BaseName {
-        len: 5,
-        bytes: *b"float\0\0",
-    },
-    BaseName {
-        len: 3,
-        bytes: *b"int\0\0\0\0",
-    },
-    BaseName {
-        len: 4,
-        bytes: *b"long\0\0\0",
-    },
-    BaseName {
-        len: 5,
-        bytes: *b"short\0\0",
-    },
-    BaseName {
-        len: 7,
-        bytes: *b"boolean",
-    },
-];
-
-fn base_row(k: usize) -> BaseName
-    requires { k < 8 }
-    ensures { (take result.len result.bytes ≡ get_or base_names k []) × (result.len ≤ 7) × (length result.bytes ≡ 7) }
+// The name of the base type with a letter, none where there is no such type.
+#[tactic(auto, unfolding(crate::specs::Names::base_name, crate::specs::Names::base_names, bytesearch::specs::Search::first_from, bytesearch::specs::Search::first_in))]
+fn base_name(letter: u8) -> &'static [u8]
+    ensures { result.now ≡ base_name letter }
 {
-    BASE_NAMES[k]
-}
-
-// Writes the name of a base type over the start of the output. Answers its length.
-fn put_base_name(out: &mut [u8], letter: u8) -> usize
-    ensures { Written 0 (base_name letter) out.old result out.new }
-{
-    let Some(k) = bytesearch::find_byte(b"BCDFIJSZ", letter, 0) else {
-        return 0;
-    };
-    let row = base_row(k);
-    let bytes = row.bytes;
-    let len = row.len;
-    put(out, &bytes[..len])
+    match letter {
+        b'B' => b"byte",
+        b'C' => b"char",
+        b'D' => b"double",
+        b'F' => b"float",
+        b'I' => b"int",
+        b'J' => b"long",
+        b'S' => b"short",
+        b'Z' => b"boolean",
+        _ => b"",
+    }
 }
 
 // Writes a pair of brackets for each dimension over the start of the output. Answers their length.
@@ -93,16 +48,15 @@ fn bracket(i: usize) -> u8
 }
 
 // Writes a class or a base type over the start of the output. A class name is handed on as a part of the descriptor.
+#[tactic(auto, unfolding(crate::specs::Names::element_name))]
 fn put_element(out: &mut [u8], descriptor: &[u8], t: FieldType) -> usize
     requires { (t.from ≤ t.to) × (t.to ≤ length descriptor.now) }
     ensures { Written 0 (element_name descriptor.now t) out.old result out.new }
 {
-    let from = t.from;
-    let to = t.to;
     if t.letter == b'L' {
-        return put_class_name(out, &descriptor[from..to]);
+        return put_class_name(out, &descriptor[t.from..t.to]);
     }
-    put_base_name(out, t.letter)
+    put(out, base_name(t.letter))
 }
 
 fn put_element_at(out: &mut [u8], at: usize, descriptor: &[u8], t: FieldType) -> usize
@@ -151,15 +105,14 @@ fn put_param_at(out: &mut [u8], at: usize, descriptor: &[u8], index: usize, t: F
 }
 
 // Writes the names of a descriptor's parameters from a place on. Answers the place after them.
+#[tactic(auto, using(crate::proofs::Left::listed))]
 pub fn put_params_at(out: &mut [u8], at: usize, descriptor: &[u8]) -> usize
     ensures { Written at (parameter_names descriptor.now) out.old result out.new }
 {
     let mut index: usize = 1;
     let mut next = at;
-    while index < descriptor.len() {
-        if descriptor[index] == b')' {
-            return next;
-        }
+    // A place stays: a turn goes on behind a type, not at the next index.
+    while index < descriptor.len() && descriptor[index] != b')' {
         let Some(t) = fieldtype::parse_field_type(descriptor, index) else {
             return next;
         };

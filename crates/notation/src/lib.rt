@@ -48,6 +48,7 @@ pub fn first_numbers<'a>(numbers: &'a mut [u64], count: usize) -> &'a mut [u64]
 }
 
 // The part of a text from a place to the next such byte, or to the end.
+#[tactic(auto, using(bytesearch::proofs::Search::place_inside), unfolding(crate::specs::Parts::part_to))]
 pub fn part_to<'a>(text: &'a [u8], at: usize, byte: u8) -> &'a [u8]
     ensures { result.now ≡ part_to byte text.now at }
 {

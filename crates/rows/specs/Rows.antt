@@ -1,16 +1,13 @@
 -- The rows of document 01's "Bench rows" that are marked P, the example of its program, and rows of document 02's requests, as one
 -- table.
 -- Assumes nothing.
-use Rattle.std.specs.Prelude.{ℕ, ◌≡◌, List, [], ◌∷◌, ◌++◌, length, replicate, Result, Ok, Err}
+use Rattle.std.specs.Prelude.{ℕ, ◌≡◌, List, [], ◌∷◌, ◌++◌, length, replicate, Result, Ok, Err, Option, Some, None}
 use Rattle.bytecode.specs.Length.{length_of}
 use Rattle.bytecode.specs.declared.Unmeasured.{Unmeasured}
 use Rattle.bytecode.specs.declared.Unmeasured.TheVariants.{NoLength, Reserved}
 use Rattle.basics.specs.Ascii.{ascii}
 use Rattle.descriptor.specs.Readers.{parameters, return_slots}
 use Rattle.descriptor.specs.declared.Params.{Params}
-use Rattle.descriptor.specs.declared.Params.TheVariants.{Read}
-use Rattle.descriptor.specs.declared.Slots.{Slots}
-use Rattle.descriptor.specs.declared.Slots.TheVariants.{Slots as SlotsOf, Unreadable as NoSlots}
 use Rattle.leader.specs.Scan.{block_leader, led_to, stopped_at}
 use Rattle.leader.specs.declared.Scanned.{Scanned}
 use Rattle.names.specs.Names.{parameter_names}
@@ -132,10 +129,10 @@ pub data Row : Type 0 where
   -- a code, a fault, and what scanning answers
   leads : List ℕ → ℕ → Result Scanned Scanned → Row
   -- a descriptor, and what its parameters are: read, and by name
-  takes : List ℕ → Params → Row
+  takes : List ℕ → Option Params → Row
   names : List ℕ → List ℕ → Row
   -- a descriptor, and the slots of its return
-  returns : List ℕ → Slots → Row
+  returns : List ℕ → Option ℕ → Row
   -- a text, the room for numbers, and what the strict reader of a method, or of a type, answers in document 01's numbers
   method_reads : List ℕ → ℕ → List ℕ → Row
   type_reads : List ℕ → ℕ → List ℕ → Row
@@ -203,16 +200,16 @@ rows =
     reports (static 4 (0x2a ∷ 0x10 ∷ 0xca ∷ 0x57 ∷ 0xbe ∷ [])) 8 60 (0 ∷ 55 ∷ 2 ∷ 4 ∷ 3 ∷ []) ∷
     reports (static 1 (0x2a ∷ 0xca ∷ [])) 8 60 (1 ∷ []) ∷
     -- "`(IJ[D)V`: int, long, double[], 4 slots, return 0."
-    takes (ascii "(IJ[D)V") (Read 4 5) ∷
+    takes (ascii "(IJ[D)V") (Some (record { slots = 4; end = 5 })) ∷
     names (ascii "(IJ[D)V") (ascii "int, long, double[]") ∷
-    returns (ascii "(IJ[D)V") (SlotsOf 0) ∷
+    returns (ascii "(IJ[D)V") (Some 0) ∷
     -- document 02, request 2: "`(La)J;)V` then returns 0 slots." In `(I)La)V;` the name of the return has a parenthesis. Parameters that
     -- can't be read, and those without an end, have no return.
-    returns (ascii "(La)J;)V") (SlotsOf 0) ∷
-    returns (ascii "(I)La)V;") (SlotsOf 1) ∷
-    returns (ascii "(La)J;") NoSlots ∷
-    returns (ascii "(V)I") NoSlots ∷
-    returns (ascii ")V") NoSlots ∷
+    returns (ascii "(La)J;)V") (Some 0) ∷
+    returns (ascii "(I)La)V;") (Some 1) ∷
+    returns (ascii "(La)J;") None ∷
+    returns (ascii "(V)I") None ∷
+    returns (ascii ")V") None ∷
     -- two slots above local 0, and none
     reports (measured (ascii "(La)V;)J")) 8 60 (0 ∷ 28 ∷ 1 ∷ 4 ∷ 3 ∷ []) ∷
     reports (measured (ascii "(La)J;)V")) 8 60 (0 ∷ 55 ∷ 2 ∷ 4 ∷ 3 ∷ []) ∷

@@ -1,7 +1,7 @@
 -- The library's answers as structs of numbers. An answer's number and what it carries are those of the library's own numbering
 -- (`numbered`, the documents' numbers); a number that an answer does not carry is 0.
 -- Assumes nothing.
-use Rattle.std.specs.Prelude.{ℕ, ◌-◌, ◌^◌, min, List, eqb, get_or, Result}
+use Rattle.std.specs.Prelude.{ℕ, ◌-◌, ◌^◌, min, List, eqb, get_or, Result, Option, Some, None}
 use Rattle.basics.specs.Choice.{pick}
 use Rattle.walk.specs.Room.{numbered as walk_numbered}
 use Rattle.walk.specs.declared.Walk.{Walk}
@@ -14,8 +14,6 @@ use Rattle.casefile.specs.declared.CaseError.{CaseError}
 use Rattle.judging.specs.Judged.{Answer, numbered as strict_numbered}
 use Rattle.leader.specs.Scan.{numbered as leader_numbered}
 use Rattle.leader.specs.declared.Scanned.{Scanned}
-use Rattle.descriptor.specs.declared.Slots.{Slots}
-use Rattle.descriptor.specs.declared.Slots.TheVariants.{Slots as SlotsOf, Unreadable as NoSlots}
 use Rattle.answer.specs.Answer.{numbered as report_numbered}
 use Rattle.answer.specs.declared.Report.{Report}
 use Rattle.structs.specs.declared.KorsepalLeader.{KorsepalLeader}
@@ -60,9 +58,9 @@ leader_numbers s =
     }
 
 -- 0 and the slots, or 1; document 01 gives them no number
-abbrev pub slot_numbers : Slots → KorsepalSlots
-slot_numbers (SlotsOf n) = record { status = 0; slots = low n }
-slot_numbers NoSlots = record { status = 1; slots = 0 }
+abbrev pub slot_numbers : Option ℕ → KorsepalSlots
+slot_numbers (Some n) = record { status = 0; slots = low n }
+slot_numbers None = record { status = 1; slots = 0 }
 
 -- 0 done, 1 failed, 3 lacks room
 abbrev pub walk_numbers : Walk → KorsepalWalk

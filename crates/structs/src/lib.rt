@@ -6,7 +6,6 @@ ghost use Rattle.structs.specs.Structs.{low, report_numbers, length_numbers, lea
 
 use answer::Report;
 use bytecode::Unmeasured;
-use descriptor::Slots;
 use leader::Scanned;
 use refusal::Refusal;
 use walk::Walk;
@@ -170,15 +169,15 @@ pub fn leader_numbers(scan: Result<Scanned, Scanned>) -> KorsepalLeader
 }
 
 // The numbers of a return's slots.
-pub fn slot_numbers(slots: Slots) -> KorsepalSlots
+pub fn slot_numbers(slots: Option<usize>) -> KorsepalSlots
     ensures { result ≡ slot_numbers slots }
 {
     match slots {
-        Slots::Slots(n) => KorsepalSlots {
+        Some(n) => KorsepalSlots {
             status: 0,
             slots: low_bits(n),
         },
-        Slots::Unreadable => KorsepalSlots {
+        None => KorsepalSlots {
             status: 1,
             slots: 0,
         },

@@ -1,7 +1,6 @@
 // Rows on names: what the lenient readers and the writers of names make of descriptors, texts at the edge of the room, and the
 // names of locals.
 use crate::{Told, told, told_with};
-use descriptor::{Params, Slots};
 use notation::first_bytes;
 use text::put_decimal_at;
 
@@ -9,8 +8,8 @@ use text::put_decimal_at;
 fn readable(descriptor: &[u8], text: usize, slots: usize) -> Told {
     let field = descriptor::slots_of_field_type(descriptor);
     match descriptor::return_type_slots(descriptor) {
-        Slots::Slots(n) => told_with(text, 0, slots, n, field),
-        Slots::Unreadable => told_with(text, 1, slots, field, 0),
+        Some(n) => told_with(text, 0, slots, n, field),
+        None => told_with(text, 1, slots, field, 0),
     }
 }
 
@@ -18,19 +17,19 @@ fn readable(descriptor: &[u8], text: usize, slots: usize) -> Told {
 fn unreadable(descriptor: &[u8]) -> Told {
     let field = descriptor::slots_of_field_type(descriptor);
     match descriptor::return_type_slots(descriptor) {
-        Slots::Slots(n) => told(2, n, field, 0),
-        Slots::Unreadable => told(3, field, 0, 0),
+        Some(n) => told(2, n, field, 0),
+        None => told(3, field, 0, 0),
     }
 }
 
 // descriptor | text => its parameters and their slots, the return's slots, and the slots as a field
 fn descriptor(out: &mut [u8], descriptor: &[u8]) -> Told {
     match descriptor::parse_method_params(descriptor) {
-        Params::Read { slots, end: _ } => {
+        Some(params) => {
             let text = names::put_params_at(out, 0, descriptor);
-            readable(descriptor, text, slots)
+            readable(descriptor, text, params.slots)
         }
-        Params::Unreadable => unreadable(descriptor),
+        None => unreadable(descriptor),
     }
 }
 

@@ -1,5 +1,6 @@
 -- An effect of the walk with its operands read: the slots of a cited descriptor that is well formed are those of its tree.
 -- Assumes nothing.
+use Rattle.std.specs.Prelude.{Some}
 use Prim.Native.Nat.{ℕ, ◌+◌, ◌<◌}
 use native.Mathlib.Omega.{arith}
 use mathlib.Core.Path.{◌≡◌, refl, ◌∙◌, sym, ap, subst}
@@ -14,8 +15,6 @@ use Rattle.jvms.specs.Machine.{Pool, cited_at}
 use Rattle.jvms.specs.Stack.{Cited, key_at}
 use Rattle.jvms.proofs.Keys.{key_plain}
 use Rattle.descriptor.specs.Readers.{parameters, return_slots, field_slots}
-use Rattle.descriptor.specs.declared.Params.TheVariants.{Read}
-use Rattle.descriptor.specs.declared.Slots.TheVariants.{Slots as SlotsOf}
 use Rattle.descriptors.specs.Lenient.{closing_at}
 use Rattle.descriptors.proofs.Agree.{lenient_agrees}
 use Rattle.effects.specs.Agreement.{taken_by, Details}
@@ -62,13 +61,13 @@ module _ (lookup : Lookup) (pool : Pool) (code : List ℕ) (pc : ℕ) (told : De
 
   pub parameter_slots :
       T (between 182 185 (byte_at code pc)) → (d : List ℕ) → lookup 1 index ≡ known d →
-      parameters d ≡ Read cited.args (closing_at (pool.method index))
+      parameters d ≡ Some (record { slots = cited.args; end = closing_at (pool.method index) })
   parameter_slots t d e =
       let well = told.method t d e in
       ap parameters well.0 ∙ lenient_agrees.same_slots (pool.method index) well.1
 
   return-slots :
-      T (between 182 185 (byte_at code pc)) → (d : List ℕ) → lookup 1 index ≡ known d → return_slots d ≡ SlotsOf cited.gives
+      T (between 182 185 (byte_at code pc)) → (d : List ℕ) → lookup 1 index ≡ known d → return_slots d ≡ Some cited.gives
   return-slots t d e =
       let well = told.method t d e in
       ap return_slots well.0 ∙ lenient_agrees.same_return (pool.method index) well.1

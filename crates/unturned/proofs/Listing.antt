@@ -1,7 +1,7 @@
 -- Types one after the other, at two places from which on two texts are alike.
 -- Rests on: one type (OneType).
 -- Assumes nothing.
-use Rattle.std.specs.Prelude.{Option}
+use Rattle.std.specs.Prelude.{Option, Some, None}
 use Prim.Native.Nat.{ℕ, zero, suc, ◌+◌, ◌≤◌, ◌<◌}
 use native.Mathlib.Omega.{arith}
 use mathlib.Core.Bool.{Bool, true, false}
@@ -16,7 +16,6 @@ use Rattle.fieldtype.proofs.Bounds.{taken-inside}
 use Rattle.fieldtype.specs.declared.FieldType.{FieldType}
 use Rattle.descriptor.specs.Readers.{slots_of, judged}
 use Rattle.descriptor.specs.declared.Params.{Params}
-use Rattle.descriptor.specs.declared.Params.TheVariants.{Read, Unreadable as UnreadableParams}
 use Rattle.descriptor.proofs.Listing.{list_past, list_closed, list_unread, list_one}
 use Rattle.unturned.proofs.Alike.{not_asked, both_end, Start, no_byte, one_byte, strange_bytes, start}
 use Rattle.unturned.proofs.OneType.{past, inside, byte_is, rest_is, Meet, TakenAlike, none_taken, both_taken, taken_alike}
@@ -98,12 +97,12 @@ module _ (text turned : List ℕ) where
   same_slots (both_one same rest) = ap₂ ◌+◌ same (same_slots rest)
 
   -- read with the same slots, and alike behind the end, or not
-  pub data CallAlike : Params → Params → Type 0 where
-    none_read : CallAlike UnreadableParams UnreadableParams
-    both_read : {slots i j : ℕ} → Meet text turned (i + 1) (j + 1) → CallAlike (Read slots i) (Read slots j)
+  pub data CallAlike : Option Params → Option Params → Type 0 where
+    none_read : CallAlike None None
+    both_read : {p q : Params} → q.slots ≡ p.slots → Meet text turned (p.end + 1) (q.end + 1) → CallAlike (Some p) (Some q)
 
   pub judged_alike : {types others : Types} → TypesAlike types others → (slots : ℕ) → CallAlike (judged types slots) (judged others slots)
   unfolding judged
-  judged_alike (both_over meet) slots = both_read meet
+  judged_alike (both_over meet) slots = both_read refl meet
   judged_alike both_unread slots = none_read
   judged_alike (both_one same rest) slots = judged_alike rest slots

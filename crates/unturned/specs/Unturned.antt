@@ -2,18 +2,15 @@
 -- So a walk over a class file reads the slots of a member in the file itself, and gets the answers for the case with the same parts.
 -- proofs/Slots.antt has a proof.
 -- Assumes nothing.
-use Rattle.std.specs.Prelude.{ℕ, true, List, ◌≡◌}
+use Rattle.std.specs.Prelude.{ℕ, true, List, ◌≡◌, Option, Some, None}
 use Rattle.descriptor.specs.Readers.{parameters, return_slots, field_slots}
 use Rattle.descriptor.specs.declared.Params.{Params}
-use Rattle.descriptor.specs.declared.Params.TheVariants.{Read, Unreadable as UnreadableParams}
-use Rattle.descriptor.specs.declared.Slots.{Slots}
-use Rattle.descriptor.specs.declared.Slots.TheVariants.{Slots as SlotsOf, Unreadable as UnreadableSlots}
 use Rattle.utf8.specs.Turning.{is_modified, turned}
 
 -- the slots of the parameters of a call, without the index where their list ends, which turning may move
-abbrev pub call_slots : Params → Slots
-call_slots (Read slots end) = SlotsOf slots
-call_slots UnreadableParams = UnreadableSlots
+abbrev pub call_slots : Option Params → Option ℕ
+call_slots (Some p) = Some p.slots
+call_slots None = None
 
 -- ---- the statement
 

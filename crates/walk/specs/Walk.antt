@@ -1,7 +1,7 @@
 -- The walk from a leader to a fault (document 01, "The walk"; document 02, requests 1 and 7), over any way to write slots and any table
 -- of rows. It is defined without room; Room.antt judges that.
 -- Assumes nothing.
-use Rattle.std.specs.Prelude.{ℕ, zero, suc, ◌+◌, ◌-◌, Bool, List, [], ◌∷◌, ◌++◌, eqb, leb, ltb, length, take, drop, replicate}
+use Rattle.std.specs.Prelude.{ℕ, zero, suc, ◌+◌, ◌-◌, Bool, List, [], ◌∷◌, ◌++◌, eqb, leb, ltb, length, take, drop, replicate, Option, Some, None}
 use Rattle.basics.specs.Bytes.{byte_at, u16_at}
 use Rattle.basics.specs.Choice.{pick}
 use Rattle.jvms.specs.Stack.{key_at}
@@ -9,9 +9,6 @@ use Rattle.fixed.specs.Fixed.{size_at}
 use Rattle.cell.specs.Cell.{cell_of, has_cell}
 use Rattle.descriptor.specs.Readers.{parameters, return_slots, field_slots}
 use Rattle.descriptor.specs.declared.Params.{Params}
-use Rattle.descriptor.specs.declared.Params.TheVariants.{Read, Unreadable as NoParams}
-use Rattle.descriptor.specs.declared.Slots.{Slots}
-use Rattle.descriptor.specs.declared.Slots.TheVariants.{Slots as SlotsOf, Unreadable as NoSlots}
 use Rattle.effects.specs.Lookup.{Known, missing, known, Lookup}
 use Rattle.effects.specs.Rows.{Row, unmodelled, opaque, aload, aload_far, aload_of, carries, keeps, gets, calls, puts, makes}
 
@@ -56,13 +53,13 @@ putting takes (known descriptor) = does (takes + field_slots descriptor) (blanks
 abbrev pub making : ℕ → Effect
 making dimensions = pick (eqb dimensions 0) (fails not_modelled) (does dimensions (blanks 1))
 
-abbrev pub returning : Slots → Push
-returning (SlotsOf n) = blanks n
-returning NoSlots = unread unreadable_return
+abbrev pub returning : Option ℕ → Push
+returning (Some n) = blanks n
+returning None = unread unreadable_return
 
-abbrev pub called : ℕ → Params → Slots → Effect
-called takes (Read slots end) result = does (takes + slots) (returning result)
-called takes NoParams result = fails unreadable_parameters
+abbrev pub called : ℕ → Option Params → Option ℕ → Effect
+called takes (Some p) result = does (takes + p.slots) (returning result)
+called takes None result = fails unreadable_parameters
 
 abbrev pub calling : ℕ → Known → Effect
 calling takes missing = fails missing_member

@@ -1,6 +1,7 @@
 -- A walk in document 01's model goes alike by document 01's cells and by those in use: it loads no local above 255, and the cells of the
 -- others hold the same by both.
 -- Assumes nothing.
+use Rattle.std.specs.Prelude.{Option, Some, None}
 use Prim.Native.Nat.{ℕ, ◌+◌, ◌-◌, ◌/◌, ◌%◌, ◌^◌, ◌<◌}
 use native.Mathlib.Omega.{arith}
 use mathlib.Core.Path.{◌≡◌, refl, ◌∙◌, sym, ap₂}
@@ -18,9 +19,6 @@ use Rattle.cell.specs.Cell.{cell_of, has_cell, some_load}
 use Rattle.cell.proofs.Laws.{load_unpacks}
 use Rattle.descriptor.specs.Readers.{parameters, return_slots}
 use Rattle.descriptor.specs.declared.Params.{Params}
-use Rattle.descriptor.specs.declared.Params.TheVariants.{Read, Unreadable as NoParams}
-use Rattle.descriptor.specs.declared.Slots.{Slots}
-use Rattle.descriptor.specs.declared.Slots.TheVariants.{Slots as SlotsOf, Unreadable as NoSlots}
 use Rattle.effects.specs.Lookup.{Known, missing, known, Lookup}
 use Rattle.effects.specs.Rows.{Row, unmodelled, opaque, aload, aload_far, aload_of, carries, keeps, gets, calls, puts, makes, row_of}
 use Rattle.walk.specs.Walk.{not_modelled, cut, blanks, load, Effect, fails, does, getting, putting, making, called, calling, effect_by, cells}
@@ -46,10 +44,10 @@ module _ (takes local : ℕ) where
   putting_not t missing e = let z : ◌≡◌ {A = ℕ} 0 1 = cc in absurd (omega arith)
   putting_not t (known d) e = let z : ◌≡◌ {A = ℕ} 0 1 = cc in absurd (omega arith)
 
-  called_not : {P : Type 0} (t : ℕ) (p : Params) (r : Slots) → Loads (called t p r) → P
-  called_not t (Read slots end) (SlotsOf n) e = let z : ◌≡◌ {A = ℕ} 0 1 = cc in absurd (omega arith)
-  called_not t (Read slots end) NoSlots e = let z : ◌≡◌ {A = ℕ} 0 1 = cc in absurd (omega arith)
-  called_not t NoParams r e = let z : ◌≡◌ {A = ℕ} 0 1 = cc in absurd (omega arith)
+  called_not : {P : Type 0} (t : ℕ) (p : Option Params) (r : Option ℕ) → Loads (called t p r) → P
+  called_not t (Some p) (Some n) e = let z : ◌≡◌ {A = ℕ} 0 1 = cc in absurd (omega arith)
+  called_not t (Some p) None e = let z : ◌≡◌ {A = ℕ} 0 1 = cc in absurd (omega arith)
+  called_not t None r e = let z : ◌≡◌ {A = ℕ} 0 1 = cc in absurd (omega arith)
 
   calling_not : {P : Type 0} (t : ℕ) (k : Known) → Loads (calling t k) → P
   calling_not t missing e = let z : ◌≡◌ {A = ℕ} 0 1 = cc in absurd (omega arith)

@@ -50,6 +50,6 @@ returns c =
     decode.invokes_method a.code.now a.members.now a.count a.fault _ _ (omega arith)
     c.read_u16-index.ensures.0 c.find_member-texts.ensures c.if-texts-eq0.false
     (ap (λ (l : List ℕ). same_list l (ascii "<init>")) (sym c.name_of.ensures)
-    ∙ same_told s.result _ (ascii "<init>") s.ensures.0 s.ensures.1 ∙ c.if-same.false) _ _
+    ∙ same_told s.result _ (ascii "<init>") s.ensures.0 s.ensures.1 ∙ c.if-same.false) _
     (ap parameters (sym c.descriptor_of.ensures)
-    ∙ sym c.parse_method_params.ensures ∙ c.in-Read.is)
+    ∙ sym c.parse_method_params.ensures ∙ c.in-Some.is)

@@ -17,13 +17,13 @@ pub returns-then-output-needed : goal.returns-then-output-needed
 unfolding numbered
 returns-then-output-needed c =
     let a = c.args in
-    let read = sym c.parse_method_params.ensures ∙ c.in-Read.is in
-    let told = writing.no-room _ 0 0 0 a.output.now _ _ c.put_params_at-needed.ensures c.if-output-needed.true in record { answers = rw read (ap (list_numbers c.in-Read.slots) told.answers); leaves = rw read told.leaves }
+    let read = sym c.parse_method_params.ensures ∙ c.in-Some.is in
+    let told = writing.no-room _ 0 0 0 a.output.now _ _ c.put_params_at-needed.ensures c.if-output-needed.true in record { answers = rw read (ap (list_numbers c.in-Some.params.slots) told.answers); leaves = rw read told.leaves }
 
 pub returns : goal.returns
 unfolding numbered
 returns c =
     let a = c.args in
-    let read = sym c.parse_method_params.ensures ∙ c.in-Read.is in
+    let read = sym c.parse_method_params.ensures ∙ c.in-Some.is in
     let small : length a.output.now < 2 ^ 64 - 1 = omega arith in
-    let told = writing.room _ 0 0 0 a.output.now _ _ c.put_params_at-needed.ensures small (omega arith) _ _ c.put_params_at.ensures in record { answers = rw read (ap (list_numbers c.in-Read.slots) told.answers); leaves = rw read told.leaves }
+    let told = writing.room _ 0 0 0 a.output.now _ _ c.put_params_at-needed.ensures small (omega arith) _ _ c.put_params_at.ensures in record { answers = rw read (ap (list_numbers c.in-Some.params.slots) told.answers); leaves = rw read told.leaves }

@@ -7,7 +7,7 @@ use mathlib.Core.Path.{◌∙◌, ap, sym}
 use mathlib.Core.List.{List}
 use Rattle.descriptor.specs.Readers.{parameters, slots_behind}
 use Rattle.instruction.proofs.Effects as laws
-use Rattle.instruction.proofs.Slots.{few_slots}
+use Rattle.descriptor.proofs.Few.{few_slots}
 use Rattle.instruction.proofs.call_effect.Goals as goal
 
 pub returns-then-texts-eq0 : goal.returns-then-texts-eq0
@@ -16,33 +16,35 @@ returns-then-texts-eq0 c =
     laws.call_none a.code.now a.pc a.members.now a.count a.table.now a.takes _
     c.cited_texts-texts.ensures c.if-texts-eq0.true
 
-pub returns-in_default : goal.returns-in_default
-returns-in_default c =
+pub returns-in_err-params : goal.returns-in_err-params
+returns-in_err-params c =
     let a = c.args in
-    laws.call_unread a.code.now a.pc a.members.now a.count a.table.now a.takes _
+    rw c.from_residual.ensures
+    (laws.call_unread a.code.now a.pc a.members.now a.count a.table.now a.takes _
     c.cited_texts-texts.ensures c.if-texts-eq0.false
-    (ap parameters (sym c.descriptor_of-signature.ensures) ∙ sym c.parse_method_params.ensures ∙ c.in_default.is)
+    (ap parameters (sym c.descriptor_of-signature.ensures) ∙ sym c.in_err-params.ensures))
 
-pub returns-in_default-slots_behind : goal.returns-in_default-slots_behind
-returns-in_default-slots_behind c =
+pub returns-in_err-gives : goal.returns-in_err-gives
+returns-in_err-gives c =
     let a = c.args in
-    laws.call_endless a.code.now a.pc a.members.now a.count a.table.now a.takes _
-    c.cited_texts-texts.ensures c.if-texts-eq0.false _ c.in-Read.end
-    (ap parameters (sym c.descriptor_of-signature.ensures) ∙ sym c.parse_method_params.ensures ∙ c.in-Read.is)
-    (ap (λ (d : List ℕ). slots_behind d (Some c.in-Read.end)) (sym c.descriptor_of-signature.ensures)
-    ∙ sym c.slots_behind.ensures ∙ c.in_default-slots_behind.is)
+    rw c.from_residual-in_err-gives.ensures
+    (laws.call_endless a.code.now a.pc a.members.now a.count a.table.now a.takes _
+    c.cited_texts-texts.ensures c.if-texts-eq0.false _
+    (ap parameters (sym c.descriptor_of-signature.ensures) ∙ sym c.in_ok-params.ensures)
+    (ap (λ (d : List ℕ). slots_behind d (Some c.in_ok-params.params.end)) (sym c.descriptor_of-signature.ensures)
+    ∙ sym c.in_err-gives.ensures))
 
 -- a descriptor has few slots, and a row takes one at most
 pub overflow_add-result : goal.overflow_add-result
 overflow_add-result c =
-    let few = few_slots _ _ _ (sym c.parse_method_params.ensures ∙ c.in-Read.is) in
+    let few = few_slots _ _ (sym c.in_ok-params.ensures) in
     omega (arith, few, c.descriptor_of-signature.type_inv, c.requires)
 
 pub returns : goal.returns
 returns c =
     let a = c.args in
     laws.called a.code.now a.pc a.members.now a.count a.table.now a.takes _
-    c.cited_texts-texts.ensures c.if-texts-eq0.false _ c.in-Read.end _
-    (ap parameters (sym c.descriptor_of-signature.ensures) ∙ sym c.parse_method_params.ensures ∙ c.in-Read.is)
-    (ap (λ (d : List ℕ). slots_behind d (Some c.in-Read.end)) (sym c.descriptor_of-signature.ensures)
-    ∙ sym c.slots_behind.ensures ∙ c.in-Slots.is)
+    c.cited_texts-texts.ensures c.if-texts-eq0.false _ _
+    (ap parameters (sym c.descriptor_of-signature.ensures) ∙ sym c.in_ok-params.ensures)
+    (ap (λ (d : List ℕ). slots_behind d (Some c.in_ok-params.params.end)) (sym c.descriptor_of-signature.ensures)
+    ∙ sym c.in_ok-gives.ensures)

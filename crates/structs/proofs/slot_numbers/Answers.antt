@@ -2,8 +2,8 @@
 -- Assumes nothing.
 use Rattle.structs.proofs.slot_numbers.Goals as goal
 
-pub returns-in-Slots : goal.returns-in-Slots
-returns-in-Slots c = rw (c.in-Slots.is, c.low_bits.ensures)
+pub returns-in-Some : goal.returns-in-Some
+returns-in-Some c = rw (c.in-Some.is, c.low_bits.ensures)
 
-pub returns-in-Unreadable : goal.returns-in-Unreadable
-returns-in-Unreadable c = rw c.in-Unreadable.is
+pub returns-in-None : goal.returns-in-None
+returns-in-None c = rw c.in-None.is

@@ -1,9 +1,10 @@
 -- A call has few slots: a byte of a method's descriptor gives two at most.
 -- Assumes nothing.
 use Rattle.std.specs.Prelude.{Option, Some, None}
+use Rattle.std.proofs.lemmas.Option.{same_Some, none-some}
 use Prim.Native.Nat.{ℕ, zero, suc, ◌*◌, ◌≤◌}
 use native.Mathlib.Omega.{arith}
-use mathlib.Core.Path.{◌≡◌}
+use mathlib.Core.Path.{◌≡◌, ap}
 use mathlib.Core.Bool.{Bool, true, false}
 use mathlib.Core.List.{List}
 use lib.Dec.{eqb}
@@ -13,7 +14,7 @@ use Rattle.basics.specs.Choice.{pick}
 use Rattle.fieldtype.specs.Types.{field_type_at, Types, over, unread, one, types_step, list_over, types_from, types_at, types_of}
 use Rattle.fieldtype.specs.declared.FieldType.{FieldType}
 use Rattle.descriptor.specs.Readers.{slots_of, judged, parameters}
-use Rattle.descriptor.specs.declared.Params.TheVariants.{Read, Unreadable}
+use Rattle.descriptor.specs.declared.Params.{Params}
 use Rattle.descriptor.proofs.Listing.{one_or_two}
 
 few_from : (text : List ℕ) (k at : ℕ) → slots_of (types_from text k at) ≤ 2 * k
@@ -28,18 +29,18 @@ few_from text (suc k) at = by_step (list_over text at) (field_type_at text at) (
     by_step false (Some t) fewer = omega (arith, (one_or_two t).1, fewer t.next)
     by_step false None fewer = omega arith
 
-judged_slots : (types : Types) (n slots end : ℕ) → judged types n ≡ Read slots end → n ≡ slots
+judged_slots : (types : Types) (n : ℕ) (p : Params) → judged types n ≡ Some p → n ≡ p.slots
 unfolding judged
-judged_slots (over at) n slots end e = cc
-judged_slots (unread at) n slots end e = let z : ◌≡◌ {A = ℕ} 0 1 = cc in absurd (omega arith)
-judged_slots (one t rest) n slots end e = judged_slots rest n slots end e
+judged_slots (over at) n p e = ap (λ (q : Params). q.slots) (same_Some _ p e)
+judged_slots (unread at) n p e = absurd (none-some p e)
+judged_slots (one t rest) n p e = judged_slots rest n p e
 
-pub few_slots : (text : List ℕ) (slots end : ℕ) → parameters text ≡ Read slots end → slots ≤ 2 * length text
+pub few_slots : (text : List ℕ) (p : Params) → parameters text ≡ Some p → p.slots ≤ 2 * length text
 unfolding parameters types_of types_at
-few_slots text slots end e = by_test (eqb (byte_at text 0) 40) e
+few_slots text p e = by_test (eqb (byte_at text 0) 40) e
   where
     by_test :
-        (b : Bool) → pick b (judged (types_of text) (slots_of (types_of text))) Unreadable ≡ Read slots end →
-        slots ≤ 2 * length text
-    by_test true e = omega (arith, judged_slots (types_of text) (slots_of (types_of text)) slots end e, few_from text (length text) 1)
-    by_test false e = let z : ◌≡◌ {A = ℕ} 0 1 = cc in absurd (omega arith)
+        (b : Bool) → pick b (judged (types_of text) (slots_of (types_of text))) None ≡ Some p →
+        p.slots ≤ 2 * length text
+    by_test true e = omega (arith, judged_slots (types_of text) (slots_of (types_of text)) p e, few_from text (length text) 1)
+    by_test false e = absurd (none-some p e)
