@@ -13,6 +13,7 @@ use reads::{byte_at, read_u16};
 use utf8::is_modified;
 
 // How many bytes the first number has that stands behind a tag other than a Utf8's.
+#[tactic(auto, unfolding(crate::specs::Pool::first_width))]
 fn first_width(tag: u8) -> usize
     ensures { result ≡ first_width tag }
 {
@@ -26,6 +27,7 @@ fn first_width(tag: u8) -> usize
 }
 
 // How many bytes the second one has, 0 where there is none.
+#[tactic(auto, unfolding(crate::specs::Pool::second_width))]
 fn second_width(tag: u8) -> usize
     ensures { result ≡ second_width tag }
 {
