@@ -4,7 +4,7 @@ use Rattle.std.specs.Prelude.{Option, Some, None}
 use Prim.Native.Nat.{ℕ, suc, ◌+◌, ◌-◌, ◌*◌, ◌/◌, ◌≤◌, ◌<◌}
 use native.Mathlib.Omega.{arith}
 use native.Mathlib.Numerals.{add-one}
-use mathlib.Core.Path.{◌≡◌, ◌∙◌, refl, sym, subst}
+use mathlib.Core.Path.{◌≡◌, ◌∙◌, refl}
 use mathlib.Core.Bool.{Bool, true, false}
 use mathlib.Core.List.{List, [], ◌∷◌}
 use lib.Dec.{eqb, ltb, leb}
@@ -12,11 +12,7 @@ use lib.ListN.{length, get_or, drop, length-drop, drop_of_length-le}
 use lib.Seq.{drop-cons}
 use borrow.Author.Tests.{lt-ltb, le-ltb, le-leb, lt-leb, eqb-false, ltb-true, ltb-false, leb-true, leb-false}
 use Rattle.basics.specs.Choice.{pick}
-use Rattle.number.specs.Number.{further, grouped, number_from, limited, number_at, number_within, rest_within}
-
--- what is equal to a thing that has a property has it too
-pub kept : {A : Type 0} (P : A → Type 0) {r wanted : A} → r ≡ wanted → P wanted → (r ≡ wanted) × P r
-kept P e holds = (e, subst P (sym e) holds)
+use Rattle.number.specs.Number.{further, grouped, number_from, limited, number_at, number_within}
 
 -- ---- where a number lies
 
@@ -55,12 +51,6 @@ number-within limit bytes at = of (number_from (drop at bytes) at) (from_within 
         by_test true e = (leb-true v limit e, omega arith, omega (arith, length-drop at bytes))
         by_test false e = tt
     of None h = tt
-
--- an answer that is the definition's lies in the bytes as its numbers do
-pub whole :
-    (bytes : List ℕ) (at limit : ℕ) {r : Option (ℕ × ℕ)} → r ≡ number_at limit bytes at →
-    (r ≡ number_at limit bytes at) × number_within limit (length bytes) at r
-whole bytes at limit e = kept (λ (n : Option (ℕ × ℕ)). number_within limit (length bytes) at n) e (number-within limit bytes at)
 
 -- ---- a number by its first group
 
@@ -142,11 +132,3 @@ pub number_behind :
     128 ≤ limit → (limit - (get_or bytes at 0 - 128)) / 128 ≡ inner →
     number_at limit bytes at ≡ further (get_or bytes at 0 - 128) (number_at inner bytes (at + 1))
 number_behind limit inner bytes at inside above byte large e = rw (← e) (number_more limit bytes at inside above byte large)
-
--- what follows a first group is at most 511
-pub rest_fits :
-    (limit size at : ℕ) (n : Option (ℕ × ℕ)) → limit ≤ 511 → number_within limit size at n → rest_within n
-rest_fits limit size at (Some (v, next)) small h = omega (arith, h.0)
-rest_fits limit size at None small h = tt
-
--- ---- where a text lies

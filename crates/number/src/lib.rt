@@ -9,6 +9,7 @@ const LAST_GROUP: usize = 3;
 
 // The number at a place, at most the limit, and the place after it. The groups behind the first are a number themselves,
 // whose limit is what the first leaves; it is above 0, or the bytes would not be the fewest.
+#[tactic(auto, using(crate::proofs::Laws::number_past, crate::proofs::Laws::number_one, crate::proofs::Laws::number_small, crate::proofs::Laws::number_more))]
 pub fn read_number(bytes: &[u8], at: usize, limit: usize) -> Option<(usize, usize)>
     ensures { (result ≡ number_at limit bytes.now at) × number_within limit (length bytes.now) at result }
 {
@@ -46,6 +47,7 @@ fn joined(low: usize, rest: Option<(usize, usize)>) -> Option<(usize, usize)>
 }
 
 // The third group of a number of a case.
+#[tactic(auto, using(crate::proofs::Laws::number_past, crate::proofs::Laws::number_above, crate::proofs::Laws::number_one))]
 fn third_group(bytes: &[u8], at: usize) -> Option<(usize, usize)>
     ensures { (result ≡ number_at 3 bytes.now at) × number_within 3 (length bytes.now) at result }
 {
@@ -60,6 +62,7 @@ fn third_group(bytes: &[u8], at: usize) -> Option<(usize, usize)>
 }
 
 // The second group, and what follows it.
+#[tactic(auto, using(crate::proofs::Laws::number_past, crate::proofs::Laws::number_one, crate::proofs::Laws::number_behind))]
 fn second_group(bytes: &[u8], at: usize) -> Option<(usize, usize)>
     ensures { (result ≡ number_at 511 bytes.now at) × number_within 511 (length bytes.now) at result }
 {
@@ -74,6 +77,7 @@ fn second_group(bytes: &[u8], at: usize) -> Option<(usize, usize)>
 }
 
 // The number of a case at a place: what `read_number` reads up to 65,535, without recursion, which is faster.
+#[tactic(auto, using(crate::proofs::Laws::number_past, crate::proofs::Laws::number_one, crate::proofs::Laws::number_behind))]
 pub fn case_number(bytes: &[u8], at: usize) -> Option<(usize, usize)>
     ensures { (result ≡ number_at greatest bytes.now at) × number_within greatest (length bytes.now) at result }
 {

@@ -3,7 +3,6 @@
 use Rattle.std.specs.Prelude.{Result, Ok, Err}
 use Prim.Native.Nat.{ℕ, zero, suc, ◌-◌, ◌<◌, ◌≤◌}
 use native.Mathlib.Nat.{not-suc-le-zero, le_of_suc-le-suc}
-use native.Mathlib.Numerals.{sub-one}
 use native.Mathlib.Omega.{arith}
 use mathlib.Core.Path.{◌≡◌, refl, sym, ◌∙◌, ap}
 use mathlib.Core.List.{List, [], ◌∷◌, ◌++◌, append-nil}
@@ -15,24 +14,7 @@ use Rattle.records.specs.Run.{no_more, read_to, next_of, read_next, run_of}
 use Rattle.records.specs.declared.LocalRecord.{LocalRecord}
 use Rattle.records.specs.declared.Reading.{Reading}
 
--- ---- the next record
-
 module _ (bytes : List ℕ) (at : ℕ) where
-  pub none_next : (left : ℕ) → left ≡ 0 → no_more ≡ next_of bytes at left
-  unfolding next_of
-  none_next left none = rw none
-
-  pub unread_next : (left place : ℕ) → record_at bytes at ≡ Err place → no_more ≡ next_of bytes at left
-  unfolding next_of
-  unread_next zero place wrong = refl
-  unread_next (suc left) place wrong = rw wrong
-
-  pub some_next :
-      (left : ℕ) (r : RecordPlace) → (left ≡ 0 → ⊥) → record_at bytes at ≡ Ok r → read_to r (left - 1) ≡ next_of bytes at left
-  unfolding next_of
-  some_next zero r some read = absurd (some refl)
-  some_next (suc left) r some read = rw (read, sub-one)
-
   -- the first record of a run, and the rest of the run
   by_record :
       (room left : ℕ) (r : Result RecordPlace ℕ) →

@@ -51,18 +51,6 @@ module _ (slot load : ℕ) where
       or_else_assoc found (first_match (x ∷ []) slot load) (first_match xs slot load)
       ∙ ap (or_else found) (sym (match_append (x ∷ []) xs))
 
-  -- a record by itself
-  module _ (r : LocalRecord) where
-    pub match_one :
-        covers r.start r.length r.slot slot load ≡ true →
-        first_match (viewed r ∷ []) slot load ≡ Some (r.from, r.to)
-    unfolding first_match
-    match_one e = rw e
-
-    pub miss_one : covers r.start r.length r.slot slot load ≡ false → first_match (viewed r ∷ []) slot load ≡ None
-    unfolding first_match
-    miss_one e = rw e
-
 -- ---- a run, from a place on
 
 pub from_place : (run : List LocalRecord) (i : ℕ) → i < length run → drop i run ≡ get_or run i blank ∷ drop (suc i) run

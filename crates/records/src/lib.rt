@@ -60,6 +60,7 @@ fn name_or(
 }
 
 // The name of the first record of a lent run that is of a slot and whose window holds the load's index.
+#[tactic(auto, using(crate::proofs::Search::found_over))]
 pub fn search_run(run: &[LocalRecord], slot: usize, load: usize) -> Option<(usize, usize)>
     ensures { result ≡ first_match (viewed_all run.now) slot load }
 {
@@ -71,6 +72,7 @@ pub fn search_run(run: &[LocalRecord], slot: usize, load: usize) -> Option<(usiz
 }
 
 // The record at the place that is reached, and what is reached after it; a blank one, and no more, where there is none to read.
+#[tactic(auto, unfolding(crate::specs::Run::next_of))]
 fn read_next(bytes: &[u8], reading: Reading) -> Reading
     ensures { result ≡ read_next bytes.now reading }
 {
@@ -94,6 +96,7 @@ fn read_next(bytes: &[u8], reading: Reading) -> Reading
 }
 
 // Fills a lent run with the records of a case's bytes, at most so many, from a place on, and with blank ones after them.
+#[tactic(auto, using(crate::proofs::Fill::filled_next, crate::proofs::Fill::filled_over))]
 pub fn fill_run(run: &mut [LocalRecord], bytes: &[u8], at: usize, count: usize)
     ensures { run.new ≡ run_of (length run.old) (records_in bytes.now count at) }
 {

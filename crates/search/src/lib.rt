@@ -6,6 +6,7 @@ ghost use Rattle.tables.specs.LocalRecord.{records_in};
 ghost use Rattle.search.specs.Search.{covers, first_match, name_inside};
 
 // Whether a record is of a slot and its window holds an index. The window's end is a whole number, so nothing is added.
+#[tactic(auto, using(crate::proofs::Search::window_same))]
 pub fn covers_load(start: usize, size: usize, of: usize, slot: usize, load: usize) -> bool
     ensures { result ≡ covers start size of slot load }
 {

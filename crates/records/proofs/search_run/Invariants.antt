@@ -1,6 +1,6 @@
 -- `records::search_run` meets its contract. What is found, with what the rest of the run gives, is the whole answer.
 -- Assumes nothing.
-use Rattle.std.proofs.Common.{length, ◌≡◌}
+use Rattle.std.proofs.Common.{◌≡◌}
 use Rattle.search.specs.Search.{first_match}
 use Rattle.records.specs.Run.{viewed_all}
 use Rattle.records.proofs.Search.{found_from}
