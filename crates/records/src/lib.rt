@@ -139,6 +139,7 @@ pub fn find_in_runs(
 {
     let mut at = 0;
     let mut left = count;
+    // A place stays: the records that are left drop by eight, and the next ones begin where a run ends.
     while 0 < left {
         let eight = eight_records(records, at, left);
         let found = search_eight(eight, slot, load);
