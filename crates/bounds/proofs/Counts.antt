@@ -31,7 +31,6 @@ use Rattle.walk.specs.Room.{Completed, Roomed, lacks, fits, judged, completed, b
 use Rattle.walk.specs.Walk.{Marks, cells, Outcome, stops, goes, passes, Walked, done, failed, count_of as block_count, overshot, ended, after, step, walk_from, walk}
 use Rattle.fault.specs.Decoding.{decoded}
 use Rattle.fault.specs.declared.Fault.{Fault}
-use Rattle.fault.specs.declared.Fault.TheVariants.{Failed, Nothing}
 use Rattle.answer.specs.Answer.{kind_of, Said, silent, roomless, said, needed, answer_by}
 use Rattle.report.specs.Report.{scan_of, traced_in, said_by, said_at, said_in, answer_of, report_in}
 use Rattle.report.specs.declared.Manner.{Manner}
@@ -162,12 +161,12 @@ module _ (manner : Manner) (p : Parts) (laid : LaidOut p) (room : ℕ) where
       kind_small None = lit≤ tt
       kind_small (Some l) = lit≤ tt
 
-      by_fault : (f : Fault) → SmallSaid (said_at manner p room f)
-      by_fault Nothing = tt
-      by_fault (Failed action depth) =
-          by_trace (traced_in manner.model p depth room) (traced_small depth)
+      by_fault : (f : Option Fault) → SmallSaid (said_at manner p room f)
+      by_fault None = tt
+      by_fault (Some f) =
+          by_trace (traced_in manner.model p f.depth room) (traced_small f.depth)
         where
-          by_trace : (t : Result Traced ℕ) → SmallTrace t → SmallSaid (said_by manner.wording p action t)
+          by_trace : (t : Result Traced ℕ) → SmallTrace t → SmallSaid (said_by manner.wording p f.action t)
           by_trace (Err index) small = tt
           by_trace (Ok t) small = (kind_small t.cause, small.0, small.1)
 

@@ -1,5 +1,6 @@
 -- The fault by a member that is laid out in a room which holds it.
 -- Assumes nothing.
+use Rattle.std.specs.Prelude.{Option}
 use Prim.Native.Nat.{ℕ, ◌≤◌}
 use native.Mathlib.Omega.{arith}
 use mathlib.Core.Path.{◌≡◌, ◌∙◌, sym, ap, ap₂}
@@ -20,7 +21,7 @@ use Rattle.citedfault.specs.Cited.{decoded_by}
 
 -- the run is the part that it ends, and it has as many members as it tells
 pub by_room :
-    (file table : List ℕ) (index size : ℕ) (room after part : List ℕ) (count : ℕ) (code : List ℕ) (fault : ℕ) (r : Fault) →
+    (file table : List ℕ) (index size : ℕ) (room after part : List ℕ) (count : ℕ) (code : List ℕ) (fault : ℕ) (r : Option Fault) →
     length room ≤ most → length (members_bytes (member_by file (entry_by file table) index)) ≤ length room →
     Written 0 (members_bytes (member_by file (entry_by file table) index)) room size after → part ≡ part_at after 0 size →
     count ≡ pick (ltb 0 size) 1 0 → r ≡ decoded code part count fault →

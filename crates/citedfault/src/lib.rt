@@ -49,7 +49,7 @@ fn decode_in(
     index: usize,
     code: &[u8],
     fault: usize,
-) -> Fault
+) -> Option<Fault>
     requires { length (members_bytes (member_by file.now (entry_by file.now table.now) index)) ≤ length room.old }
     ensures { result ≡ decoded_by (member_by file.now (entry_by file.now table.now) index) code.now fault }
 {
@@ -65,7 +65,7 @@ fn decode_within<const N: usize>(
     index: usize,
     code: &[u8],
     fault: usize,
-) -> Fault
+) -> Option<Fault>
     requires fits { length (members_bytes (member_by file.now (entry_by file.now table.now) index)) ≤ N }
     requires n_in_bounds { N ≤ LONGEST }
     ensures { result ≡ decoded_by (member_by file.now (entry_by file.now table.now) index) code.now fault }
@@ -75,7 +75,7 @@ fn decode_within<const N: usize>(
 }
 
 // Decodes the fault of an instruction. The member is measured first, by writing it to no output.
-pub fn decode_cited(file: &[u8], table: &[usize], code: &[u8], fault: usize) -> Fault
+pub fn decode_cited(file: &[u8], table: &[usize], code: &[u8], fault: usize) -> Option<Fault>
     ensures { result ≡ decoded_in file.now table.now code.now fault }
 {
     let index = cited_index(code, fault);

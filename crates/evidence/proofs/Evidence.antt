@@ -1,6 +1,6 @@
 -- A name is evidence. Rests on condition 3 and on when the kind is 2.
 -- Assumes nothing.
-use Rattle.std.specs.Prelude.{Ok}
+use Rattle.std.specs.Prelude.{Ok, None}
 use Prim.Native.Nat.{ℕ, zero, suc, ◌+◌, ◌-◌, ◌<◌}
 use native.Mathlib.Omega.{arith}
 use mathlib.Core.Path.{◌≡◌, refl, ◌∙◌, sym, ap}
@@ -22,9 +22,8 @@ use Rattle.effects.specs.Lookup.{lookup_in}
 use Rattle.cell.specs.Cell.{cell_of}
 use Rattle.cell.proofs.Laws.{cell_of_unpacked}
 use Rattle.walk.specs.Room.{answer_of, shown, cells_of}
-use Rattle.fault.specs.Decoding.{invokes, action_of, constructs, failed_at, decoded}
+use Rattle.fault.specs.Decoding.{invokes, action_of, constructs, failed_at, decoded, faulted}
 use Rattle.fault.specs.declared.Action.{Action}
-use Rattle.fault.specs.declared.Fault.TheVariants.{Failed, Nothing}
 use Rattle.message.specs.Message.{cause_text, message_text}
 use Rattle.report.specs.Report.{message_of, report_in}
 use Rattle.report.specs.declared.Manner.{Manner}
@@ -41,7 +40,7 @@ use Rattle.evidence.proofs.Kind.{kind_two_in}
 -- ---- a fault that is decoded lies in the code
 
 failed-at :
-    (b : Bool) (d : Depth) (a action : Action) (depth : ℕ) → pick b Nothing (failed_at d a) ≡ Failed action depth →
+    (b : Bool) (d : Depth) (a action : Action) (depth : ℕ) → pick b None (failed_at d a) ≡ faulted action depth →
     d ≡ at depth
 failed-at true d a action depth e = let z : ◌≡◌ {A = ℕ} 0 1 = cc in absurd (omega arith)
 failed-at false nowhere a action depth e = let z : ◌≡◌ {A = ℕ} 0 1 = cc in absurd (omega arith)
@@ -52,7 +51,7 @@ not_cut true d depth e = refl
 not_cut false d depth e = let z : ◌≡◌ {A = ℕ} 0 1 = cc in absurd (omega arith)
 
 module _ (code members : List ℕ) (count fault depth : ℕ) (action : Action) where
-  depth_is : decoded code members count fault ≡ Failed action depth → depth_of (lookup_in members count) code fault ≡ at depth
+  depth_is : decoded code members count fault ≡ faulted action depth → depth_of (lookup_in members count) code fault ≡ at depth
   unfolding decoded
   depth_is e =
       failed-at (both (invokes (byte_at code fault)) (constructs members count (u16_at code (fault + 1))))

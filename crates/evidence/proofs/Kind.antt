@@ -16,10 +16,9 @@ use Rattle.cell.specs.Cell.{unpacked}
 use Rattle.cell.specs.declared.Load.{Load}
 use Rattle.walk.specs.Room.{Roomed, lacks, fits, block_walk_in}
 use Rattle.walk.specs.Walk.{done, failed}
-use Rattle.fault.specs.Decoding.{decoded}
+use Rattle.fault.specs.Decoding.{decoded, faulted}
 use Rattle.fault.specs.declared.Action.{Action}
 use Rattle.fault.specs.declared.Fault.{Fault}
-use Rattle.fault.specs.declared.Fault.TheVariants.{Failed, Nothing}
 use Rattle.action.specs.Action.{action_text}
 use Rattle.message.specs.Message.{cause_text, message_text}
 use Rattle.answer.specs.Answer.{kind_of, Said, said}
@@ -39,7 +38,7 @@ module _ (manner : Manner) (p : Parts) (room : ℕ) (message : List ℕ) (scan b
   Two told = told ≡ said message 2 scan block
 
   module _ (action : Action) (depth : ℕ)
-      (decodes : decoded p.code p.members p.member_count p.fault ≡ Failed action depth) where
+      (decodes : decoded p.code p.members p.member_count p.fault ≡ faulted action depth) where
     module _ (leader scanned : ℕ) (leads : scan_of p ≡ led_to leader scanned) where
       module _ (slots : List ℕ) (count : ℕ)
           (walks :
@@ -94,10 +93,10 @@ module _ (manner : Manner) (p : Parts) (room : ℕ) (message : List ℕ) (scan b
     by_scan (Err s) e told = absurd cc
 
   by_fault :
-      (fault : Fault) → decoded p.code p.members p.member_count p.fault ≡ fault → Two (said_at manner p room fault) →
+      (fault : Option Fault) → decoded p.code p.members p.member_count p.fault ≡ fault → Two (said_at manner p room fault) →
       CausedIn manner p room message scan block
-  by_fault Nothing e told = absurd cc
-  by_fault (Failed action depth) e told = by_scan action depth e (scan_of p) refl told
+  by_fault None e told = absurd cc
+  by_fault (Some f) e told = by_scan f.action f.depth e (scan_of p) refl told
 
   has_cause : Two (said_in manner p room) → CausedIn manner p room message scan block
   unfolding said_in
@@ -131,7 +130,7 @@ module _ (manner : Manner) (p : Parts) (room : ℕ) (message : List ℕ) (kind s
   Kinds = ((kind ≡ 1) × ActionAlone manner.wording p message) ⊎ (kind ≡ 2)
 
   module _ (action : Action) (depth : ℕ)
-      (decodes : decoded p.code p.members p.member_count p.fault ≡ Failed action depth) where
+      (decodes : decoded p.code p.members p.member_count p.fault ≡ faulted action depth) where
     by_cause :
         (cause : Option Load) (scanned count : ℕ) →
         said (message_of manner.wording p action cause) (kind_of cause) scanned count ≡ said message kind scan block → Kinds
@@ -146,11 +145,11 @@ module _ (manner : Manner) (p : Parts) (room : ℕ) (message : List ℕ) (kind s
     by_trace (Ok t) told = by_cause t.cause t.scan t.block told
 
   by_decoding :
-      (fault : Fault) → decoded p.code p.members p.member_count p.fault ≡ fault →
+      (fault : Option Fault) → decoded p.code p.members p.member_count p.fault ≡ fault →
       said_at manner p room fault ≡ said message kind scan block → Kinds
-  by_decoding Nothing e told = absurd cc
-  by_decoding (Failed action depth) e told =
-      by_trace action depth e (traced_in manner.model p depth room) told
+  by_decoding None e told = absurd cc
+  by_decoding (Some f) e told =
+      by_trace f.action f.depth e (traced_in manner.model p f.depth room) told
 
 pub one_or_two_in : (manner : Manner) → OneOrTwoIn manner
 unfolding said_in

@@ -13,9 +13,8 @@ use Rattle.leaders.specs.Leader.{Arrived}
 use Rattle.leaders.proofs.ByDocument.{led_by_document}
 use Rattle.leaders.proofs.Reserved.{reserved_scan}
 use Rattle.casefile.specs.Parts.{Parts}
-use Rattle.fault.specs.Decoding.{decoded}
+use Rattle.fault.specs.Decoding.{decoded, faulted}
 use Rattle.fault.specs.declared.Action.{Action}
-use Rattle.fault.specs.declared.Fault.TheVariants.{Failed}
 use Rattle.action.specs.Action.{action_text}
 use Rattle.answer.specs.Answer.{said}
 use Rattle.report.specs.Report.{scan_of, said_from, said_in}
@@ -32,7 +31,7 @@ module _ (manner : Manner) (p : Parts) (room : ℕ) where
   action-alone :
       (count pc : ℕ) →
       Arrived length_rule p.code count pc → 202 ≤ byte_at p.code pc → (action : Action) (depth : ℕ) →
-      decoded p.code p.members p.member_count p.fault ≡ Failed action depth →
+      decoded p.code p.members p.member_count p.fault ≡ faulted action depth →
       said_in manner p room ≡ said (action_text manner.wording p.members p.member_count action) 1 count 0
   unfolding said_in
   action-alone count pc arrived high action depth decodes =

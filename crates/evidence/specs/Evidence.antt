@@ -19,9 +19,8 @@ use Rattle.casefile.specs.Whole.{case_of}
 use Rattle.casefile.specs.declared.Places.{Places}
 use Rattle.text.specs.Writing.{over}
 use Rattle.effects.specs.Lookup.{lookup_in}
-use Rattle.fault.specs.Decoding.{decoded}
+use Rattle.fault.specs.Decoding.{decoded, faulted}
 use Rattle.fault.specs.declared.Action.{Action}
-use Rattle.fault.specs.declared.Fault.TheVariants.{Failed}
 use Rattle.locals.specs.Name.{local_name}
 use Rattle.action.specs.Action.{action_text}
 use Rattle.answer.specs.Answer.{said}
@@ -59,7 +58,7 @@ pub record Evidence (wording : Wording) (p : Parts) (pool : Pool) (message : Lis
   pub load : ℕ
   pub local : ℕ
   -- the action is the fault's
-  pub decodes : decoded p.code p.members p.member_count p.fault ≡ Failed action depth
+  pub decodes : decoded p.code p.members p.member_count p.fault ≡ faulted action depth
   -- the message: the action in the wording, and the name of the local as it stands at its load
   pub words :
       message

@@ -6,9 +6,8 @@ use Rattle.casefile.specs.Parts.{Parts}
 use Rattle.cell.specs.Cell.{some_load, unpacked}
 use Rattle.walk.specs.Room.{fits, block_walk_in}
 use Rattle.walk.specs.Walk.{done}
-use Rattle.fault.specs.Decoding.{decoded}
+use Rattle.fault.specs.Decoding.{decoded, faulted}
 use Rattle.fault.specs.declared.Action.{Action}
-use Rattle.fault.specs.declared.Fault.TheVariants.{Failed}
 use Rattle.action.specs.Action.{action_text}
 use Rattle.answer.specs.Answer.{said}
 use Rattle.report.specs.Report.{document_manner, scan_of, message_of, said_in}
@@ -26,7 +25,7 @@ pub record CausedIn (manner : Manner) (p : Parts) (room : ℕ) (message : List �
   pub load : ℕ
   pub local : ℕ
   -- the fault's action, and how deep the reference lies
-  pub decodes : decoded p.code p.members p.member_count p.fault ≡ Failed action depth
+  pub decodes : decoded p.code p.members p.member_count p.fault ≡ faulted action depth
   pub leads : scan_of p ≡ led_to leader scan
   -- "the walk succeeds"
   pub walks :
@@ -50,7 +49,7 @@ pub record KindTwoIn (manner : Manner) : Type 0 where
 pub record ActionAlone (wording : Wording) (p : Parts) (message : List ℕ) : Type 0 where
   pub action : Action
   pub depth : ℕ
-  pub decodes : decoded p.code p.members p.member_count p.fault ≡ Failed action depth
+  pub decodes : decoded p.code p.members p.member_count p.fault ≡ faulted action depth
   pub words : message ≡ action_text wording p.members p.member_count action
 
 -- every message is of kind 1, with the action alone, or of kind 2

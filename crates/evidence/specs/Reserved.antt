@@ -10,9 +10,8 @@ use Rattle.leader.specs.Scan.{block_leader}
 use Rattle.leaders.specs.Leader.{Arrived}
 use Rattle.leaders.specs.Reserved.{MeetsNone}
 use Rattle.casefile.specs.Parts.{Parts}
-use Rattle.fault.specs.Decoding.{decoded}
+use Rattle.fault.specs.Decoding.{decoded, faulted}
 use Rattle.fault.specs.declared.Action.{Action}
-use Rattle.fault.specs.declared.Fault.TheVariants.{Failed}
 use Rattle.action.specs.Action.{action_text}
 use Rattle.answer.specs.Answer.{Said, said}
 use Rattle.report.specs.Report.{said_from, said_in}
@@ -32,7 +31,7 @@ pub record ReservedReport (manner : Manner) : Type 0 where
   pub action_alone :
       (p : Parts) (room count pc : ℕ) →
       Arrived length_rule p.code count pc → 202 ≤ byte_at p.code pc → (action : Action) (depth : ℕ) →
-      decoded p.code p.members p.member_count p.fault ≡ Failed action depth →
+      decoded p.code p.members p.member_count p.fault ≡ faulted action depth →
       said_in manner p room ≡ said (action_text manner.wording p.members p.member_count action) 1 count 0
   -- no name is new: one that is given is given by document 01's lengths too, with message and counts
   pub same_name :

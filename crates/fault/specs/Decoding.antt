@@ -1,6 +1,6 @@
 -- The faulting instruction decoded (document 01, "Action and cause"): which action failed, and how deep the reference lies.
 -- Assumes nothing.
-use Rattle.std.specs.Prelude.{ℕ, ◌+◌, ◌-◌, Bool, List, [], ◌∷◌, eqb}
+use Rattle.std.specs.Prelude.{ℕ, ◌+◌, ◌-◌, Bool, List, [], ◌∷◌, eqb, Option, Some, None}
 use Rattle.basics.specs.Ascii.{ascii}
 use Rattle.basics.specs.Bytes.{byte_at, u16_at}
 use Rattle.basics.specs.Choice.{pick, both, one_of, between, same_list}
@@ -11,7 +11,6 @@ use Rattle.effects.specs.Lookup.{lookup_in}
 use Rattle.fault.specs.declared.Action.{Action}
 use Rattle.fault.specs.declared.Action.TheVariants.{ReadField, AssignField, Invoke, LoadArray, StoreArray, ReadLength, ThrowException, EnterBlock, ExitBlock}
 use Rattle.fault.specs.declared.Fault.{Fault}
-use Rattle.fault.specs.declared.Fault.TheVariants.{Failed, Nothing}
 
 -- "Invokes 182, 183, 185"
 abbrev pub invokes : ℕ → Bool
@@ -33,12 +32,15 @@ action_of op index =
 unfoldable pub constructs : List ℕ → ℕ → ℕ → Bool
 constructs members count index = same_list (name_of (member_found members index 1 count 0 0)) (ascii "<init>")
 
-abbrev pub failed_at : Depth → Action → Fault
-failed_at nowhere action = Nothing
-failed_at (at depth) action = Failed action depth
+abbrev pub faulted : Action → ℕ → Option Fault
+faulted action depth = Some (record { action = action; depth = depth })
+
+abbrev pub failed_at : Depth → Action → Option Fault
+failed_at nowhere action = None
+failed_at (at depth) action = faulted action depth
 
 -- nothing where answer 1 is given
-unfoldable pub decoded : List ℕ → List ℕ → ℕ → ℕ → Fault
+unfoldable pub decoded : List ℕ → List ℕ → ℕ → ℕ → Option Fault
 decoded code members count fault =
-    pick (both (invokes (byte_at code fault)) (constructs members count (u16_at code (fault + 1)))) Nothing
+    pick (both (invokes (byte_at code fault)) (constructs members count (u16_at code (fault + 1)))) None
     (failed_at (depth_of (lookup_in members count) code fault) (action_of (byte_at code fault) (u16_at code (fault + 1))))

@@ -1,5 +1,6 @@
 -- Whether there is a message, its action and its scan count do not depend on the model, and the full model drops no cause.
 -- Assumes nothing.
+use Rattle.fault.specs.Decoding.{faulted}
 use Rattle.std.specs.Prelude.{Option, None, Some, Result, Ok, Err}
 use Prim.Native.Nat.{ℕ, ◌≤◌}
 use native.Mathlib.Omega.{arith}
@@ -12,7 +13,6 @@ use Rattle.walk.specs.Room.{Roomed, lacks, fits, block_walk_in}
 use Rattle.walk.specs.Walk.{done, failed}
 use Rattle.fault.specs.declared.Action.{Action}
 use Rattle.fault.specs.declared.Fault.{Fault}
-use Rattle.fault.specs.declared.Fault.TheVariants.{Failed, Nothing}
 use Rattle.answer.specs.Answer.{kind_of, silent, roomless, said}
 use Rattle.report.specs.Report.{scan_of, traced_in, message_of, said_by, said_at, said_in}
 use Rattle.report.specs.declared.Manner.{Manner}
@@ -36,15 +36,15 @@ module _ (p : Parts) (manner : Manner) (room : ℕ) where
   not_silent action (Err index) e = absurd cc
   not_silent action (Ok t) e = absurd cc
 
-  by_fault : (f : Fault) → said_at manner p room f ≡ silent → f ≡ Nothing
-  by_fault Nothing e = refl
-  by_fault (Failed action depth) e = absurd (not_silent action (traced_in manner.model p depth room) e)
+  by_fault : (f : Option Fault) → said_at manner p room f ≡ silent → f ≡ None
+  by_fault None e = refl
+  by_fault (Some f) e = absurd (not_silent f.action (traced_in manner.model p f.depth room) e)
 
-  nothing : said_in manner p room ≡ silent → fault p ≡ Nothing
+  nothing : said_in manner p room ≡ silent → fault p ≡ None
   unfolding said_in
   nothing e = by_fault (fault p) e
 
-  silent_by : fault p ≡ Nothing → said_in manner p room ≡ silent
+  silent_by : fault p ≡ None → said_in manner p room ≡ silent
   unfolding said_in
   silent_by e = rw e
 
@@ -65,13 +65,13 @@ module _ (manner : Manner) (p : Parts) (room : ℕ) (message : List ℕ) (kind s
   pub record Made : Type 0 where
     pub action : Action
     depth : ℕ
-    decodes : fault p ≡ Failed action depth
+    decodes : fault p ≡ faulted action depth
     pub cause : Option Load
     pub words : message ≡ message_of manner.wording p action cause
     kinds : kind ≡ kind_of cause
     scans : scan ≡ scanned (scan_of p)
 
-  module _ (action : Action) (depth : ℕ) (decodes : fault p ≡ Failed action depth) where
+  module _ (action : Action) (depth : ℕ) (decodes : fault p ≡ faulted action depth) where
     trace_scans :
         (x : Result Scanned Scanned) (s count : ℕ) (cause : Option Load) →
         traced_by manner.model p.code p.members p.member_count p.fault depth room x ≡ traced_with s count cause →
@@ -99,10 +99,10 @@ module _ (manner : Manner) (p : Parts) (room : ℕ) (message : List ℕ) (kind s
           scans = sym scans ∙ trace_scans (scan_of p) t.scan t.block t.cause e;
         }
 
-  by_decoding : (f : Fault) → fault p ≡ f → said_at manner p room f ≡ said message kind scan block → Made
-  by_decoding Nothing e told = absurd cc
-  by_decoding (Failed action depth) e told =
-      by_trace action depth e (traced_in manner.model p depth room) refl told
+  by_decoding : (f : Option Fault) → fault p ≡ f → said_at manner p room f ≡ said message kind scan block → Made
+  by_decoding None e told = absurd cc
+  by_decoding (Some f) e told =
+      by_trace f.action f.depth e (traced_in manner.model p f.depth room) refl told
 
   pub made : said_in manner p room ≡ said message kind scan block → Made
   unfolding said_in
@@ -134,7 +134,7 @@ module _ (w : Wording) (p : Parts) (room room' : ℕ) (message message' : List �
   same_action =
       let one = made (old w) p room message kind scan block told in
       let other = made (full w) p room' message' kind' scan' block' told' in
-      let failing : Failed other.action other.depth ≡ Failed one.action one.depth = sym other.decodes ∙ one.decodes in
+      let failing : faulted other.action other.depth ≡ faulted one.action one.depth = sym other.decodes ∙ one.decodes in
       let same : other.action ≡ one.action = cc in
       record {
         action = one.action;

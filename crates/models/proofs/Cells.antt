@@ -1,7 +1,7 @@
 -- A walk and a report in document 01's model are what they would be by document 01's cells: the walks go alike, and slots that hold the
 -- same give one cause.
 -- Assumes nothing.
-use Rattle.std.specs.Prelude.{None, Result, Ok, Err}
+use Rattle.std.specs.Prelude.{None, Result, Ok, Err, Option, Some}
 use Prim.Native.Nat.{ℕ, ◌-◌, ◌^◌, ◌≤◌, ◌<◌}
 use native.Mathlib.Omega.{arith}
 use mathlib.Core.Path.{◌≡◌, refl, ◌∙◌, sym, ap}
@@ -34,7 +34,6 @@ use Rattle.walks.proofs.Cells.{present_walks}
 use Rattle.trace.specs.Trace.{slot_from, trace_of, traced_with}
 use Rattle.fault.specs.Decoding.{decoded}
 use Rattle.fault.specs.declared.Fault.{Fault}
-use Rattle.fault.specs.declared.Fault.TheVariants.{Failed, Nothing}
 use Rattle.answer.specs.Answer.{Said, answer_by, output_by}
 use Rattle.report.specs.Report.{manner_of, scan_of, traced_from, said_by, said_at, said_in, answer_of, output_of, report_in, reported_by}
 use Rattle.evidence.proofs.Evidence.{code_bytes}
@@ -109,9 +108,9 @@ module _ (p : Parts) (are : AreBytes p.code) (short : length p.code ≤ 2 ^ 48) 
   traced_same depth room (Err s) = refl
 
   said-at :
-      (w : Wording) (room : ℕ) (fault : Fault) → said_at (manner_of Document w) p room fault ≡ former_said_at w p room fault
-  said-at w room Nothing = refl
-  said-at w room (Failed action depth) = ap (said_by w p action) (traced_same depth room (scan_of p))
+      (w : Wording) (room : ℕ) (fault : Option Fault) → said_at (manner_of Document w) p room fault ≡ former_said_at w p room fault
+  said-at w room None = refl
+  said-at w room (Some fault) = ap (said_by w p fault.action) (traced_same fault.depth room (scan_of p))
 
   said_same : (w : Wording) (room : ℕ) → said_in (manner_of Document w) p room ≡ former_said w p room
   unfolding said_in

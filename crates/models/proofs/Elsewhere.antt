@@ -1,7 +1,7 @@
 -- Where document 01's model does not give up, the full one says the same; and where the one lacks room, so does the other.
 -- Rests on the two walks.
 -- Assumes nothing.
-use Rattle.std.specs.Prelude.{Result, Ok, Err}
+use Rattle.std.specs.Prelude.{Result, Ok, Err, Option, Some, None}
 use Prim.Native.Nat.{ℕ}
 use native.Mathlib.Omega.{arith}
 use mathlib.Core.Path.{◌≡◌, refl, ap}
@@ -10,10 +10,9 @@ use Rattle.effects.specs.declared.Model.{Model}
 use Rattle.effects.specs.declared.Model.TheVariants.{Document, Full}
 use Rattle.walk.specs.Room.{Roomed, lacks, fits, block_walk_in}
 use Rattle.walk.specs.Walk.{done, failed}
-use Rattle.fault.specs.Decoding.{decoded}
+use Rattle.fault.specs.Decoding.{decoded, faulted}
 use Rattle.fault.specs.declared.Action.{Action}
 use Rattle.fault.specs.declared.Fault.{Fault}
-use Rattle.fault.specs.declared.Fault.TheVariants.{Failed, Nothing}
 use Rattle.answer.specs.Answer.{Said, silent, roomless}
 use Rattle.report.specs.Report.{scan_of, traced_from, said_by, said_at, said_in}
 use Rattle.trace.specs.Trace.{trace_of}
@@ -23,7 +22,7 @@ use Rattle.models.proofs.Walk.{full_is, full_lacks}
 use Rattle.leader.specs.declared.Scanned.{Scanned}
 use Rattle.leader.specs.Scan.{led_to}
 
-abbrev pub fault : Parts → Fault
+abbrev pub fault : Parts → Option Fault
 fault p = decoded p.code p.members p.member_count p.fault
 
 -- what is said of a fault by a walk
@@ -36,17 +35,17 @@ walk_in model p leader room = block_walk_in model p.code p.members p.member_coun
 -- all but the walk is the same, so what holds of it in both models holds of what is said
 module _ (w : Wording) (p : Parts) (room : ℕ) (Holds : Said → Said → Type 0) (same : (what : Said) → Holds what what)
     (walks :
-    (action : Action) (depth leader scan : ℕ) → fault p ≡ Failed action depth → scan_of p ≡ led_to leader scan →
+    (action : Action) (depth leader scan : ℕ) → fault p ≡ faulted action depth → scan_of p ≡ led_to leader scan →
     Holds (told w p action depth scan (walk_in Document p leader room)) (told w p action depth scan (walk_in Full p leader room))) where
   by_scan :
-      (action : Action) (depth : ℕ) → fault p ≡ Failed action depth → (scan : Result Scanned Scanned) → scan_of p ≡ scan →
+      (action : Action) (depth : ℕ) → fault p ≡ faulted action depth → (scan : Result Scanned Scanned) → scan_of p ≡ scan →
       Holds (said_by w p action (traced_from Document scan p depth room)) (said_by w p action (traced_from Full scan p depth room))
   by_scan action depth decodes (Ok s) leads = walks action depth s.at s.count decodes leads
   by_scan action depth decodes (Err s) leads = same (said_by w p action (traced_from Full (Err s) p depth room))
 
-  by_fault : (f : Fault) → fault p ≡ f → Holds (said_at (old w) p room f) (said_at (full w) p room f)
-  by_fault Nothing decodes = same silent
-  by_fault (Failed action depth) decodes = by_scan action depth decodes (scan_of p) refl
+  by_fault : (f : Option Fault) → fault p ≡ f → Holds (said_at (old w) p room f) (said_at (full w) p room f)
+  by_fault None decodes = same silent
+  by_fault (Some f) decodes = by_scan f.action f.depth decodes (scan_of p) refl
 
   in_both : Holds (said_in (old w) p room) (said_in (full w) p room)
   unfolding said_in

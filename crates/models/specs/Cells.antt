@@ -2,7 +2,7 @@
 -- answers and writes, is what it would be by document 01's cells. That this model goes by opcodes alone, as before the request, is
 -- `ByOpcode` of crates/effects/specs/Agreement.antt. proofs/Cells.antt has the proof.
 -- Assumes nothing.
-use Rattle.std.specs.Prelude.{ℕ, ◌-◌, ◌^◌, ◌≤◌, ◌≡◌, List, ltb, length, get_or, Option, None, Result, Ok, Err}
+use Rattle.std.specs.Prelude.{ℕ, ◌-◌, ◌^◌, ◌≤◌, ◌≡◌, List, ltb, length, get_or, Option, None, Result, Ok, Err, Some}
 use Rattle.cell.specs.declared.Load.{Load}
 use Rattle.basics.specs.Bytes.{AreBytes}
 use Rattle.basics.specs.Choice.{pick}
@@ -20,7 +20,6 @@ use Rattle.walk.specs.Walk.{done, failed, walk}
 use Rattle.walks.specs.Cells.{document_cells, document_unpacked}
 use Rattle.fault.specs.Decoding.{decoded}
 use Rattle.fault.specs.declared.Fault.{Fault}
-use Rattle.fault.specs.declared.Fault.TheVariants.{Failed, Nothing}
 use Rattle.answer.specs.Answer.{Said, silent, answer_by, output_by}
 use Rattle.answer.specs.declared.Report.{Report}
 use Rattle.answer.specs.declared.Report.TheVariants as report
@@ -50,9 +49,9 @@ former_traced p depth room (Ok s) =
     former_trace s.count depth (former_walk p.code p.members p.member_count s.at p.fault room)
 former_traced p depth room (Err s) = traced_with s.count 0 None
 
-abbrev pub former_said_at : Wording → Parts → ℕ → Fault → Said
-former_said_at w p room Nothing = silent
-former_said_at w p room (Failed action depth) = said_by w p action (former_traced p depth room (scan_of p))
+abbrev pub former_said_at : Wording → Parts → ℕ → Option Fault → Said
+former_said_at w p room None = silent
+former_said_at w p room (Some fault) = said_by w p fault.action (former_traced p fault.depth room (scan_of p))
 
 abbrev pub former_said : Wording → Parts → ℕ → Said
 former_said w p room = former_said_at w p room (decoded p.code p.members p.member_count p.fault)

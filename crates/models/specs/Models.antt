@@ -14,9 +14,8 @@ use Rattle.effects.specs.Rows.{row_of}
 use Rattle.effects.specs.declared.Model.TheVariants.{Document, Full}
 use Rattle.walk.specs.Room.{lacks, fits, block_walk, block_walk_in}
 use Rattle.walk.specs.Walk.{not_modelled, cells, done, failed, walk}
-use Rattle.fault.specs.Decoding.{decoded}
+use Rattle.fault.specs.Decoding.{decoded, faulted}
 use Rattle.fault.specs.declared.Action.{Action}
-use Rattle.fault.specs.declared.Fault.TheVariants.{Failed}
 use Rattle.answer.specs.Answer.{kind_of, silent, roomless, said}
 use Rattle.answer.specs.declared.Report.TheVariants.{Message, NoMessage, NoRoom}
 use Rattle.report.specs.Report.{manner_of, scan_of, message_of, said_in, report_in, reported_by}
@@ -51,7 +50,7 @@ pub record GivesUp (p : Parts) : Type 0 where
   pub scan : ℕ
   pub count : ℕ
   pub index : ℕ
-  pub decodes : decoded p.code p.members p.member_count p.fault ≡ Failed action depth
+  pub decodes : decoded p.code p.members p.member_count p.fault ≡ faulted action depth
   pub leads : scan_of p ≡ led_to leader scan
   pub walks :
       walk cells row_of (lookup_in p.members p.member_count) p.code p.fault leader ≡ failed count index not_modelled
@@ -96,7 +95,7 @@ SilentAlike =
 pub record SameAction (w : Wording) (p : Parts) (message message' : List ℕ) (kind kind' scan scan' : ℕ) : Type 0 where
   pub action : Action
   pub depth : ℕ
-  pub decodes : decoded p.code p.members p.member_count p.fault ≡ Failed action depth
+  pub decodes : decoded p.code p.members p.member_count p.fault ≡ faulted action depth
   pub cause : Option Load
   pub cause' : Option Load
   pub words : message ≡ message_of w p action cause

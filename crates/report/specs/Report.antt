@@ -1,7 +1,7 @@
 -- The report of a case (document 01, "Numbers returned"): its answer, the output and the stack at exit. It is asked for in a manner: the
 -- model of its walk (document 02, request 1) and the wording of its message (request 11).
 -- Assumes nothing.
-use Rattle.std.specs.Prelude.{ℕ, zero, suc, List, [], Option, Result, Err, Ok}
+use Rattle.std.specs.Prelude.{ℕ, zero, suc, List, [], Option, Result, Err, Ok, Some, None}
 use Rattle.cell.specs.declared.Load.{Load}
 use Rattle.bytecode.specs.Length.{length_of}
 use Rattle.leader.specs.Scan.{block_leader}
@@ -17,7 +17,6 @@ use Rattle.answer.specs.Answer.{kind_of, Said, silent, roomless, said, answer_by
 use Rattle.fault.specs.Decoding.{decoded}
 use Rattle.fault.specs.declared.Action.{Action}
 use Rattle.fault.specs.declared.Fault.{Fault}
-use Rattle.fault.specs.declared.Fault.TheVariants.{Failed, Nothing}
 use Rattle.locals.specs.Name.{is_instance}
 use Rattle.message.specs.Message.{message_text}
 use Rattle.trace.specs.Trace.{traced_by}
@@ -84,11 +83,11 @@ abbrev pub said_by : Wording → Parts → Action → Result Traced ℕ → Said
 said_by wording p action (Err index) = roomless index
 said_by wording p action (Ok t) = said (message_of wording p action t.cause) (kind_of t.cause) t.scan t.block
 
-abbrev pub said_from : Manner → Result Scanned Scanned → Parts → ℕ → Fault → Said
-said_from manner scan p room Nothing = silent
-said_from manner scan p room (Failed action depth) = said_by manner.wording p action (traced_from manner.model scan p depth room)
+abbrev pub said_from : Manner → Result Scanned Scanned → Parts → ℕ → Option Fault → Said
+said_from manner scan p room None = silent
+said_from manner scan p room (Some fault) = said_by manner.wording p fault.action (traced_from manner.model scan p fault.depth room)
 
-abbrev pub said_at : Manner → Parts → ℕ → Fault → Said
+abbrev pub said_at : Manner → Parts → ℕ → Option Fault → Said
 said_at manner p room fault = said_from manner (scan_of p) p room fault
 
 -- of the parts of a case, with so many cells lent: in a manner, and in document 01's

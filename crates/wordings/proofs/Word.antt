@@ -1,6 +1,6 @@
 -- Two wordings differ in one word. What fails and its cause are the same; only the words of the action are looked at.
 -- Assumes nothing.
-use Rattle.std.specs.Prelude.{Option, Result, Err, Ok}
+use Rattle.std.specs.Prelude.{Option, Result, Err, Ok, Some, None}
 use Prim.Native.Nat.{ℕ, zero, suc, ◌+◌, ◌-◌}
 use native.Mathlib.Omega.{arith}
 use mathlib.Core.Path.{◌≡◌, refl, ◌∙◌, sym, ap}
@@ -21,7 +21,6 @@ use Rattle.fault.specs.Decoding.{invokes, action_of, constructs, failed_at, deco
 use Rattle.fault.specs.declared.Action.{Action}
 use Rattle.fault.specs.declared.Action.TheVariants.{ReadField, AssignField, Invoke, LoadArray, StoreArray, ReadLength, ThrowException, EnterBlock, ExitBlock}
 use Rattle.fault.specs.declared.Fault.{Fault}
-use Rattle.fault.specs.declared.Fault.TheVariants.{Failed, Nothing}
 use Rattle.locals.specs.Name.{is_instance}
 use Rattle.action.specs.Action.{action_text}
 use Rattle.message.specs.Message.{cause_text, message_text}
@@ -43,7 +42,7 @@ cause_of p cause = cause_text cause p.records p.record_count p.signature (is_ins
 -- the action of the opcode, and its words
 record Acts (op : ℕ) (begin : List ℕ) : Type 0 where
   action : Action
-  fails : (d : Depth) (b : Bool) (index : ℕ) → pick (both (invokes op) b) Nothing (failed_at d (action_of op index)) ≡ failed_at d action
+  fails : (d : Depth) (b : Bool) (index : ℕ) → pick (both (invokes op) b) None (failed_at d (action_of op index)) ≡ failed_at d action
   words :
       (w : Wording) (p : Parts) (cause : Option Load) → message_of w p action cause ≡ begin ++ (byte_text w ++ ascii " array") ++ cause_of p cause
 
@@ -124,7 +123,7 @@ module _ (p : Parts) where
 
   module _ (model : Model) (room : ℕ) where
     -- what is said of a fault is the same
-    unfoldable Same : Fault → Type 0
+    unfoldable Same : Option Fault → Type 0
     Same f = said_at (in_wording2 model) p room f ≡ said_at (in_wording1 model) p room f
 
     by_cause : (action : Action) → Alike action → (t : Result Traced ℕ) → said_by ByteBoolean p action t ≡ said_by Byte p action t
@@ -143,7 +142,7 @@ module _ (p : Parts) where
     same_said load store =
         let index = u16_at p.code (p.fault + 1) in
         let deep = depth_of (lookup_in p.members p.member_count) p.code p.fault in
-        chosen Same (both (invokes (faulting p)) (constructs p.members p.member_count index)) Nothing
+        chosen Same (both (invokes (faulting p)) (constructs p.members p.member_count index)) None
         (failed_at deep (action_of (faulting p) index)) refl
         (by_action (action_of (faulting p) index) (action_alike (faulting p) index load store) deep)
 
@@ -154,9 +153,9 @@ module _ (p : Parts) where
     lacking_trace action (Err other) index e = e
     lacking_trace action (Ok t) index e = absurd cc
 
-    lacking_fault : (f : Fault) (index : ℕ) → said_at (in_wording1 model) p room f ≡ roomless index → said_at (in_wording2 model) p room f ≡ roomless index
-    lacking_fault Nothing index e = e
-    lacking_fault (Failed action depth) index e = lacking_trace action (traced_in model p depth room) index e
+    lacking_fault : (f : Option Fault) (index : ℕ) → said_at (in_wording1 model) p room f ≡ roomless index → said_at (in_wording2 model) p room f ≡ roomless index
+    lacking_fault None index e = e
+    lacking_fault (Some fault) index e = lacking_trace fault.action (traced_in model p fault.depth room) index e
 
     lacking_said : (index : ℕ) → said_in (in_wording1 model) p room ≡ roomless index → said_in (in_wording2 model) p room ≡ roomless index
     unfolding said_in

@@ -22,7 +22,7 @@ returns-in-Err c =
     a.records.now a.record_count in
     let told =
     reporting.is_roomless a.manner p (length a.stack.now) a.out.now _ _ _
-    (sym c.decode_fault.ensures ∙ c.in-Failed.is)
+    (sym c.decode_fault.ensures ∙ c.in-Some.is)
     (sym c.trace_cause.ensures.answers ∙ c.in-Err.is) in record { delivers = told; clears = c.trace_cause.ensures.leaves }
 
 pub returns-in-Ok : goal.returns-in-Ok
@@ -32,7 +32,7 @@ returns-in-Ok c =
     a.records.now a.record_count in
     let told =
     reporting.is_said a.manner p (length a.stack.now) a.out.now _ _ _ _ _
-    (sym c.decode_fault.ensures ∙ c.in-Failed.is)
+    (sym c.decode_fault.ensures ∙ c.in-Some.is)
     (sym c.trace_cause.ensures.answers ∙ c.in-Ok.is) _
     c.is_instance-instance.ensures _ _
     c.write_message.ensures in record { delivers = told; clears = c.trace_cause.ensures.leaves }
