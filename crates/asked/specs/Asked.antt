@@ -1,13 +1,12 @@
 -- What the words of the program ask for (document 02, requests 1 and 11): `--full` the full model, `--wording` and a decimal number the
 -- wording that it names; in any order, and of two the last holds. What names nothing gets what a call gets that names nothing.
 -- Assumes nothing.
-use Rattle.std.specs.Prelude.{ℕ, ◌+◌, ◌-◌, ◌*◌, List, [], ◌∷◌}
+use Rattle.std.specs.Prelude.{ℕ, ◌+◌, ◌-◌, ◌*◌, List, [], ◌∷◌, Some}
 use Rattle.basics.specs.Ascii.{ascii}
 use Rattle.basics.specs.Choice.{pick, between, same_list}
 use Rattle.effects.specs.declared.Model.TheVariants.{Full as FullModel}
 use Rattle.report.specs.Report.{default_manner}
 use Rattle.words.specs.Wording.{wording_by}
-use Rattle.words.specs.declared.Named.TheVariants.{Known}
 use Rattle.asked.specs.declared.Asked.{Asked}
 use Rattle.asked.specs.declared.State.{State}
 use Rattle.asked.specs.declared.State.TheVariants.{Whole, Pending, Wrong}
@@ -31,7 +30,7 @@ word_of text = pick (same_list text (ascii "--full")) Full (pick (same_list text
 -- ---- all words
 
 abbrev pub unasked : Asked
-unasked = record { model = default_manner.model; wording = Known default_manner.wording; state = Whole }
+unasked = record { model = default_manner.model; wording = Some default_manner.wording; state = Whole }
 
 abbrev pub wrongly : Asked → Asked
 wrongly asked = record { model = asked.model; wording = asked.wording; state = Wrong }

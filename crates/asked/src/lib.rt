@@ -8,7 +8,7 @@ ghost use Rattle.asked.specs.declared.State.TheVariants.{Whole, Pending};
 
 use check::same;
 use effects::Model;
-use words::{Named, wording_by};
+use words::{Wording, wording_by};
 
 // A word as it is read: a number by the wording that it names.
 #[derive(Clone, Copy)]
@@ -30,7 +30,7 @@ pub enum State {
 #[derive(Clone, Copy)]
 pub struct Asked {
     pub model: Model,
-    pub wording: Named,
+    pub wording: Option<Wording>,
     pub state: State,
 }
 
@@ -86,7 +86,7 @@ pub fn unasked() -> Asked
     let wording = unnamed.wording;
     Asked {
         model,
-        wording: Named::Known(wording),
+        wording: Some(wording),
         state: State::Whole,
     }
 }

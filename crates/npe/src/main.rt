@@ -10,7 +10,6 @@ use std::env::FillError;
 use std::io;
 use std::io::Read;
 use std::rt::Env;
-use words::Named;
 
 // What reading the input answers.
 #[derive(Clone, Copy)]
@@ -129,7 +128,7 @@ fn main(rt: HostRuntime) -> io::Result<()> {
     let model = asked.model;
     let wording = asked.wording;
     match wording {
-        Named::Known(wording) => report_input(&rt, Manner { model, wording }),
-        Named::Unknown => print_line(&rt, Report::NoWording, b""),
+        Some(wording) => report_input(&rt, Manner { model, wording }),
+        None => print_line(&rt, Report::NoWording, b""),
     }
 }

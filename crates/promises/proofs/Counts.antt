@@ -1,5 +1,6 @@
 -- A number below 2^32 is kept as it is; the counts of a case are below 2^16.
 -- Assumes nothing.
+use Rattle.std.specs.Prelude.{Option, Some, None}
 use Prim.Native.Nat.{ℕ, ◌≤◌}
 use native.Mathlib.Omega.{arith}
 use mathlib.Core.Path.{◌≡◌, refl}
@@ -15,8 +16,7 @@ use Rattle.answer.specs.declared.Report.{Report}
 use Rattle.answer.specs.declared.Report.TheVariants.{Message, NoMessage, Broken, NoRoom, NoOutput, TooLong, NoWording}
 use Rattle.effects.specs.declared.Model.{Model}
 use Rattle.words.specs.Wording.{wording_by}
-use Rattle.words.specs.declared.Named.{Named}
-use Rattle.words.specs.declared.Named.TheVariants.{Known, Unknown}
+use Rattle.words.specs.declared.Wording.{Wording}
 use Rattle.promises.specs.Counts.{plainly, CCounts}
 
 low_is : (n : ℕ) → n ≤ greatest → low n ≡ n
@@ -34,9 +34,9 @@ as_they_are TooLong small = refl
 as_they_are NoWording small = refl
 
 module _ (model : Model) (bytes : List ℕ) (are : AreBytes bytes) (room out_room : ℕ) where
-  named_small : (name : Named) → Small (answer_named name model bytes room out_room)
-  named_small (Known wording) = counts_small (manner_of model wording) bytes are room out_room
-  named_small Unknown = tt
+  named_small : (name : Option Wording) → Small (answer_named name model bytes room out_room)
+  named_small (Some wording) = counts_small (manner_of model wording) bytes are room out_room
+  named_small None = tt
 
   worded_small : (number : ℕ) → Small (report_worded model number bytes room out_room)
   unfolding report_worded

@@ -24,8 +24,6 @@ use Rattle.trace.specs.declared.Traced.{Traced}
 use Rattle.answer.specs.declared.Report.{Report}
 use Rattle.answer.specs.declared.Report.TheVariants as report
 use Rattle.words.specs.Wording.{wording_by}
-use Rattle.words.specs.declared.Named.{Named}
-use Rattle.words.specs.declared.Named.TheVariants.{Known, Unknown}
 use Rattle.words.specs.declared.Wording.{Wording}
 use Rattle.words.specs.declared.Wording.TheVariants.{Byte, ByteBoolean}
 use Rattle.report.specs.declared.Manner.{Manner}
@@ -124,13 +122,13 @@ reported_in bytes room out = reported_by document_manner bytes room out
 
 -- ---- the wording by its number: "11 for a wording other than 1 or 2, tested first"
 
-abbrev pub answer_named : Named → Model → List ℕ → ℕ → ℕ → Report
-answer_named (Known wording) model bytes room out_room = report_in (manner_of model wording) bytes room out_room
-answer_named Unknown model bytes room out_room = report.NoWording
+abbrev pub answer_named : Option Wording → Model → List ℕ → ℕ → ℕ → Report
+answer_named (Some wording) model bytes room out_room = report_in (manner_of model wording) bytes room out_room
+answer_named None model bytes room out_room = report.NoWording
 
-abbrev pub output_named : Named → Model → List ℕ → ℕ → List ℕ → List ℕ
-output_named (Known wording) model bytes room out = reported_by (manner_of model wording) bytes room out
-output_named Unknown model bytes room out = out
+abbrev pub output_named : Option Wording → Model → List ℕ → ℕ → List ℕ → List ℕ
+output_named (Some wording) model bytes room out = reported_by (manner_of model wording) bytes room out
+output_named None model bytes room out = out
 
 unfoldable pub report_worded : Model → ℕ → List ℕ → ℕ → ℕ → Report
 report_worded model number bytes room out_room = answer_named (wording_by number) model bytes room out_room

@@ -13,7 +13,7 @@ use fault::Fault;
 use items::part_at;
 use locals::is_instance;
 use trace::{Traced, trace_cause};
-use words::{Named, Wording};
+use words::Wording;
 
 // How a report is asked for.
 #[derive(Clone, Copy)]
@@ -206,11 +206,9 @@ pub fn build_message_worded(
     ensures leaves { out.new ≡ reported_worded model wording case.now (length stack.old) out.old }
     ensures clears { stack.new ≡ replicate (length stack.old) 0 }
 {
-    match words::wording_by(wording) {
-        Named::Known(wording) => build_message_in(Manner { model, wording }, case, stack, out),
-        Named::Unknown => {
-            clear(stack);
-            Report::NoWording
-        }
-    }
+    let Some(wording) = words::wording_by(wording) else {
+        clear(stack);
+        return Report::NoWording;
+    };
+    build_message_in(Manner { model, wording }, case, stack, out)
 }

@@ -1,6 +1,6 @@
 -- A number names wording 1, wording 2 or none. A report in a manner is never answered 11.
 -- Assumes nothing.
-use Rattle.std.specs.Prelude.{Result, Ok, Err}
+use Rattle.std.specs.Prelude.{Result, Ok, Err, Option, Some, None}
 use Prim.Native.Nat.{ℕ}
 use native.Mathlib.Omega.{arith}
 use mathlib.Core.Path.{◌≡◌, refl, ◌∙◌, sym}
@@ -23,8 +23,6 @@ use Rattle.report.specs.Report.{manner_of, said_in, answer_of, report_in, answer
 use Rattle.report.specs.declared.Manner.{Manner}
 use Rattle.words.specs.Wording.{wording_by}
 use Rattle.words.proofs.Wordings.{unknown}
-use Rattle.words.specs.declared.Named.{Named}
-use Rattle.words.specs.declared.Named.TheVariants.{Known, Unknown}
 use Rattle.words.specs.declared.Wording.{Wording}
 use Rattle.words.specs.declared.Wording.TheVariants.{Byte, ByteBoolean}
 use Rattle.evidence.specs.Evidence.{WellDescribed}
@@ -33,7 +31,7 @@ use Rattle.wordings.specs.Numbers.{IsWorded, ElevenExactly, CallsWorded, WordedE
 
 -- ---- the numbers
 
-known : (model : Model) (number : ℕ) (wording : Wording) → wording_by number ≡ Known wording → IsWorded model number wording
+known : (model : Model) (number : ℕ) (wording : Wording) → wording_by number ≡ Some wording → IsWorded model number wording
 unfolding report_worded reported_worded
 known model number wording e = record { answers = λ bytes room out_room. rw e; outputs = λ bytes room out. rw e }
 
@@ -59,7 +57,7 @@ not_reported manner bytes room out_room e = by_case (case_of bytes) e
 
 module _ (model : Model) (number : ℕ) (bytes : List ℕ) (room out_room : ℕ)
     (answer : report_worded model number bytes room out_room ≡ NoWording) where
-  not_known : (wording : Wording) → wording_by number ≡ Known wording → ⊥
+  not_known : (wording : Wording) → wording_by number ≡ Some wording → ⊥
   not_known wording e =
       not_reported (manner_of model wording) bytes room out_room
       (sym ((known model number wording e).answers bytes room out_room) ∙ answer)
@@ -96,17 +94,17 @@ module _ (model : Model) (number : ℕ) (bytes : List ℕ) (places : Places) (po
     (size scan block : ℕ) (are : AreBytes bytes) (reads : case_of bytes ≡ Ok places)
     (described : WellDescribed (parts_of bytes places) pool) where
   by_name :
-      (name : Named) → wording_by number ≡ name →
+      (name : Option Wording) → wording_by number ≡ name →
       answer_named name model bytes room (length out) ≡ Message size 2 scan block →
       WordedEvidence model number bytes places pool room out size scan block
-  by_name (Known wording) e answer =
+  by_name (Some wording) e answer =
       record {
         wording = wording;
         named = e;
         written = (known model number wording e).outputs bytes room out;
         evidence = report_is_evidence (manner_of model wording) bytes places pool room out size scan block are reads described answer;
       }
-  by_name Unknown e answer = let z : ◌≡◌ {A = ℕ} 0 1 = cc in absurd (omega arith)
+  by_name None e answer = let z : ◌≡◌ {A = ℕ} 0 1 = cc in absurd (omega arith)
 
   is_evidence :
       report_worded model number bytes room (length out) ≡ Message size 2 scan block →

@@ -2,7 +2,7 @@
 -- "Refusals: 11 for a wording other than 1 or 2, tested first." Of what `build_message_worded` answers and leaves, by its contract; its
 -- stack is zero afterwards for every number. proofs/Numbers.antt has the proof.
 -- Assumes nothing.
-use Rattle.std.specs.Prelude.{ℕ, ◌≡◌, List, length, Ok}
+use Rattle.std.specs.Prelude.{ℕ, ◌≡◌, List, length, Ok, Some}
 use Rattle.basics.specs.Bytes.{AreBytes}
 use Rattle.jvms.specs.Machine.{Pool}
 use Rattle.casefile.specs.Parts.{parts_of}
@@ -13,7 +13,6 @@ use Rattle.effects.specs.declared.Model.TheVariants.{Document, Full}
 use Rattle.answer.specs.declared.Report.TheVariants.{Message, NoWording}
 use Rattle.report.specs.Report.{manner_of, default_manner, full_manner, report_in, reported_by, report_of, reported_in, report_worded, reported_worded}
 use Rattle.words.specs.Wording.{wording_by}
-use Rattle.words.specs.declared.Named.TheVariants.{Known}
 use Rattle.words.specs.declared.Wording.{Wording}
 use Rattle.words.specs.declared.Wording.TheVariants.{Byte, ByteBoolean}
 use Rattle.evidence.specs.Evidence.{WellDescribed, Reported}
@@ -65,7 +64,7 @@ pub record CallsWorded : Type 0 where
 pub record WordedEvidence (model : Model) (number : ℕ) (bytes : List ℕ) (places : Places) (pool : Pool) (room : ℕ) (out : List ℕ)
     (size scan block : ℕ) : Type 1 where
   pub wording : Wording
-  pub named : wording_by number ≡ Known wording
+  pub named : wording_by number ≡ Some wording
   pub written : reported_worded model number bytes room out ≡ reported_by (manner_of model wording) bytes room out
   pub evidence : Reported (manner_of model wording) bytes places pool room out size scan block
 

@@ -16,21 +16,14 @@ pub enum Wording {
     ByteBoolean,
 }
 
-// What a number names: a wording, or none.
-#[derive(Clone, Copy)]
-pub enum Named {
-    Known(Wording),
-    Unknown,
-}
-
-// The wording that a number names, 1 or 2.
-pub fn wording_by(number: usize) -> Named
+// The wording that a number names, 1 or 2; any other names none.
+pub fn wording_by(number: usize) -> Option<Wording>
     ensures { result ≡ wording_by number }
 {
     match number {
-        1 => Named::Known(Wording::Byte),
-        2 => Named::Known(Wording::ByteBoolean),
-        _ => Named::Unknown,
+        1 => Some(Wording::Byte),
+        2 => Some(Wording::ByteBoolean),
+        _ => None,
     }
 }
 

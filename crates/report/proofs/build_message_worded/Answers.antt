@@ -4,14 +4,14 @@ use mathlib.Core.Path.{refl, sym, ◌∙◌}
 use Rattle.report.specs.Report.{report_worded, reported_worded}
 use Rattle.report.proofs.build_message_worded.Goals as goal
 
-pub returns-in-Known : goal.returns-in-Known
+pub returns : goal.returns
 unfolding report_worded reported_worded
-returns-in-Known c =
-    let told = sym c.wording_by.ensures ∙ c.in-Known.is in
+returns c =
+    let told = sym c.wording_by.ensures ∙ c.in-Some.is in
     let all = c.build_message_in.ensures in
     record { answers = rw told all.answers; leaves = rw told all.leaves; clears = all.clears }
 
-pub returns-in-Unknown : goal.returns-in-Unknown
+pub returns-in_default : goal.returns-in_default
 unfolding report_worded reported_worded
-returns-in-Unknown c =
-    let told = sym c.wording_by.ensures ∙ c.in-Unknown.is in record { answers = rw told refl; leaves = rw told refl; clears = c.clear.ensures }
+returns-in_default c =
+    let told = sym c.wording_by.ensures ∙ c.in_default.is in record { answers = rw told refl; leaves = rw told refl; clears = c.clear.ensures }
