@@ -20,13 +20,6 @@ use std::rt::Files;
 use std::{fs, io};
 use text::{put_at, put_decimal_at};
 
-// What a field is read as: a number, or how many bytes were read.
-#[derive(Clone, Copy)]
-pub enum Value {
-    Of(usize),
-    Wrong,
-}
-
 // The first bytes of an output, all where it has fewer.
 pub fn first_bytes<'a>(out: &'a mut [u8], count: usize) -> &'a mut [u8]
     ensures { result.now ≡ take count out.old }
@@ -106,43 +99,30 @@ fn digit_of(byte: u8) -> usize
     }
 }
 
-// A number in decimal digits, of 64 bits at most. Spaces are skipped.
-fn read_decimal(text: &[u8]) -> Value {
-    let mut value: usize = 0;
-    let mut digits: usize = 0;
-    let mut i = 0;
-    while i < text.len() {
-        let byte = text[i];
-        i += 1;
-        if byte != b' ' {
-            let digit = digit_of(byte);
+// A number in decimal digits, of 64 bits at most; spaces are skipped. None where there is no digit, or what is none.
+fn read_decimal(text: &[u8]) -> Option<usize> {
+    let mut value: Option<usize> = None;
+    for byte in text {
+        if *byte != b' ' {
+            let digit = digit_of(*byte);
             if 9 < digit {
-                return Value::Wrong;
+                return None;
             }
-            if (0xffff_ffff_ffff_ffff - digit) / 10 < value {
-                return Value::Wrong;
-            }
-            value = 10 * value + digit;
-            digits += 1;
+            value = Some(value.unwrap_or(0).checked_mul(10)?.checked_add(digit)?);
         }
     }
-    if digits == 0 {
-        return Value::Wrong;
-    }
-    Value::Of(value)
+    value
 }
 
 // Writes a part so many times from a place on, until the output ends. Answers the place after what was written, past the
 // output's end where it does not fit.
 fn put_times(out: &mut [u8], at: usize, part: &[u8], times: usize) -> usize {
     let mut end = at;
-    let mut left = times;
-    while 0 < left {
+    for _ in 0..times {
         if out.len() < end {
             return end;
         }
         end = put_at(out, end, part);
-        left -= 1;
     }
     end
 }
@@ -192,27 +172,23 @@ fn put_word(out: &mut [u8], at: usize, word: &[u8]) -> usize {
     if count.len() == word.len() {
         return put_item(out, at, word, 1);
     }
-    let Value::Of(times) = read_decimal(count) else {
+    let Some(times) = read_decimal(count) else {
         return NOWHERE;
     };
     put_item(out, at, part_at(word, after(0, count), word.len()), times)
 }
 
 // Reads written bytes into the start of an output. There are no more words than bytes of text; behind the last there is nothing.
-fn read_bytes(out: &mut [u8], text: &[u8]) -> Value {
+// Answers how many bytes were read.
+fn read_bytes(out: &mut [u8], text: &[u8]) -> Option<usize> {
     let mut at = 0;
     let mut end = 0;
-    let mut left = text.len();
-    while 0 < left {
+    for _ in 0..text.len() {
         let word = part_to(text, at, b' ');
         end = put_word(out, end, word);
         at = after(at, word);
-        left -= 1;
     }
-    if end <= out.len() {
-        return Value::Of(end);
-    }
-    Value::Wrong
+    if end <= out.len() { Some(end) } else { None }
 }
 
 // A list of kinds has a line for each: its name, the shape of its fields and, behind a bar, the forms of its answers with
@@ -226,18 +202,15 @@ struct Kind {
 
 // Looks a kind up in a list. One that is missing has a number behind them all.
 fn kind_in(kinds: &[u8], name: &[u8]) -> Kind {
-    let mut number: usize = 0;
     let mut at: usize = 0;
-    let mut left = kinds.len();
-    while 0 < left {
+    for number in 0..kinds.len() {
         let line = part_to(kinds, at, b'\n');
         if same(part_to(line, 0, b' '), name) {
             return Kind { number, at };
         }
-        number += 1;
         at = after(at, line);
-        left -= 1;
     }
+    let number = kinds.len();
     Kind { number, at }
 }
 
@@ -251,10 +224,8 @@ fn shape_at<'a>(kinds: &'a [u8], at: usize) -> &'a [u8] {
 fn form_at<'a>(kinds: &'a [u8], kind: usize, number: usize) -> &'a [u8] {
     let line = part_to(kinds, kind, b'\n');
     let mut at = after(0, part_to(line, 0, b'|'));
-    let mut left = number;
-    while 0 < left {
+    for _ in 0..number {
         at = after(at, part_to(line, at, b';'));
-        left -= 1;
     }
     part_to(line, at, b';')
 }
@@ -280,19 +251,20 @@ fn name_in<'a>(field: &'a [u8]) -> &'a [u8] {
     part_to(field, 1, b' ')
 }
 
+// What a field is read as: a number, or how many bytes were read.
 fn read_field(
     rt: &(impl Files + Print),
     letter: u8,
     field: &[u8],
     x: &mut [u8],
     y: &mut [u8],
-) -> io::Result<Value> {
+) -> io::Result<Option<usize>> {
     Ok(match letter {
         b'x' => read_bytes(x, field),
         b'y' => read_bytes(y, field),
-        b'f' => Value::Of(read_file(rt, x, name_in(field))?),
-        b'g' => Value::Of(read_file(rt, y, name_in(field))?),
-        b'-' => Value::Of(0),
+        b'f' => Some(read_file(rt, x, name_in(field))?),
+        b'g' => Some(read_file(rt, y, name_in(field))?),
+        b'-' => Some(0),
         _ => read_decimal(field),
     })
 }
@@ -308,16 +280,14 @@ fn read_fields(
 ) -> io::Result<bool> {
     // The place of the bar before a field, at last the end.
     let mut bar = part_to(fields, 0, b'|').len();
-    let mut i = 0;
-    while i < shape.len() {
-        let letter = shape[i];
+    for letter in shape {
+        let letter = *letter;
         let field = part_to(fields, bar.saturating_add(1), b'|');
-        let Value::Of(n) = read_field(rt, letter, field, x, y)? else {
+        let Some(n) = read_field(rt, letter, field, x, y)? else {
             return Ok(false);
         };
         values[place_of(letter)] = n;
         bar = after(bar, field);
-        i += 1;
     }
     Ok(bar == fields.len())
 }
@@ -338,16 +308,14 @@ fn put_part(out: &mut [u8], at: usize, part: &[u8], text: &[u8]) -> usize {
 fn put_form(out: &mut [u8], form: &[u8], numbers: &[usize], text: &[u8]) -> usize {
     let mut at = 0;
     let mut end = 0;
-    let mut i = 1;
-    while i < numbers.len() {
+    for number in numbers.iter().skip(1) {
         let part = part_to(form, at, b'#');
         end = put_part(out, end, part, text);
         at = after(at, part);
         if form.len() < at {
             return end;
         }
-        end = put_decimal_at(out, end, numbers[i]);
-        i += 1;
+        end = put_decimal_at(out, end, *number);
     }
     end
 }
@@ -416,6 +384,7 @@ pub fn say_agreed(rt: &impl Print, name: &[u8], agreed: usize) -> io::Result<()>
 // Reads until a buffer is full, the file ends or a read fails. Answers how many bytes of the file are at the buffer's start.
 fn read_full(file: &mut impl Read, buffer: &mut [u8]) -> usize {
     let mut done: usize = 0;
+    // A place stays: a read takes as many bytes as it has, so no `for` counts the turns.
     while done < buffer.len() {
         let Ok(n) = file.read(&mut buffer[done..]) else {
             return done;
