@@ -10,16 +10,18 @@ use check::same;
 use effects::Model;
 use words::{Wording, wording_by};
 
-// A word as it is read: a number by the wording that it names.
+// A word as it is read: a number by the wording that it names. A word that is none of these is Other, since None is what stands behind
+// the last word.
 #[derive(Clone, Copy)]
 pub enum Word {
     Full,
     Wording,
-    Number(Named),
+    Number(Option<Wording>),
     Other,
 }
 
-// Whether the words so far are whole, lack the number of a wording, or have a wrong one among them.
+// Whether the words so far are whole, lack the number of a wording, or have a wrong one among them. It is no Result: what is asked for is
+// kept behind a wrong word too.
 #[derive(Clone, Copy)]
 pub enum State {
     Whole,

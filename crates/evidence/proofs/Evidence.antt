@@ -1,6 +1,6 @@
 -- A name is evidence. Rests on condition 3 and on when the kind is 2.
 -- Assumes nothing.
-use Rattle.std.specs.Prelude.{Ok, None}
+use Rattle.std.specs.Prelude.{Ok, None, Option, Some}
 use Prim.Native.Nat.{ℕ, zero, suc, ◌+◌, ◌-◌, ◌<◌}
 use native.Mathlib.Omega.{arith}
 use mathlib.Core.Path.{◌≡◌, refl, ◌∙◌, sym, ap}
@@ -23,6 +23,7 @@ use Rattle.cell.specs.Cell.{cell_of}
 use Rattle.cell.proofs.Laws.{cell_of_unpacked}
 use Rattle.walk.specs.Room.{answer_of, shown, cells_of}
 use Rattle.fault.specs.Decoding.{invokes, action_of, constructs, failed_at, decoded, faulted}
+use Rattle.fault.specs.declared.Fault.{Fault}
 use Rattle.fault.specs.declared.Action.{Action}
 use Rattle.message.specs.Message.{cause_text, message_text}
 use Rattle.report.specs.Report.{message_of, report_in}
@@ -39,12 +40,16 @@ use Rattle.evidence.proofs.Kind.{kind_two_in}
 
 -- ---- a fault that is decoded lies in the code
 
+abbrev depth_or_zero : Option Fault → ℕ
+depth_or_zero None = 0
+depth_or_zero (Some f) = f.depth
+
 failed-at :
     (b : Bool) (d : Depth) (a action : Action) (depth : ℕ) → pick b None (failed_at d a) ≡ faulted action depth →
     d ≡ at depth
 failed-at true d a action depth e = let z : ◌≡◌ {A = ℕ} 0 1 = cc in absurd (omega arith)
 failed-at false nowhere a action depth e = let z : ◌≡◌ {A = ℕ} 0 1 = cc in absurd (omega arith)
-failed-at false (at d) a action depth e = let same : d ≡ depth = cc in ap at same
+failed-at false (at d) a action depth e = ap at (ap depth_or_zero e)
 
 not_cut : (b : Bool) (d : Depth) (depth : ℕ) → pick b d nowhere ≡ at depth → b ≡ true
 not_cut true d depth e = refl

@@ -30,6 +30,11 @@ scanned (Err s) = s.count
 
 -- ---- nothing to say
 
+-- the action of a fault, another of none
+abbrev action_or : Action → Option Fault → Action
+action_or other None = other
+action_or other (Some f) = f.action
+
 module _ (p : Parts) (manner : Manner) (room : ℕ) where
   -- a fault is told of, or lacks room
   not_silent : (action : Action) (trace : Result Traced ℕ) → said_by manner.wording p action trace ≡ silent → ⊥
@@ -135,7 +140,7 @@ module _ (w : Wording) (p : Parts) (room room' : ℕ) (message message' : List �
       let one = made (old w) p room message kind scan block told in
       let other = made (full w) p room' message' kind' scan' block' told' in
       let failing : faulted other.action other.depth ≡ faulted one.action one.depth = sym other.decodes ∙ one.decodes in
-      let same : other.action ≡ one.action = cc in
+      let same : other.action ≡ one.action = ap (action_or one.action) failing in
       record {
         action = one.action;
         depth = one.depth;

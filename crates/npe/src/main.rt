@@ -11,33 +11,33 @@ use std::io;
 use std::io::Read;
 use std::rt::Env;
 
-// What reading the input answers.
+// Why the input is no case.
 #[derive(Clone, Copy)]
-enum Input {
-    Case(usize),
+enum InputError {
     TooLong,
     Unreadable,
 }
 
-// Whether the input goes on behind a full buffer.
-fn after_full(stdin: &mut impl Read, size: usize) -> Input {
+// The size of a case that fills the buffer, where the input ends behind it.
+fn after_full(stdin: &mut impl Read, size: usize) -> Result<usize, InputError> {
     let mut more = [0u8; 1];
     match stdin.read(&mut more) {
-        Ok(0) => Input::Case(size),
-        Ok(_) => Input::TooLong,
-        Err(_) => Input::Unreadable,
+        Ok(0) => Ok(size),
+        Ok(_) => Err(InputError::TooLong),
+        Err(_) => Err(InputError::Unreadable),
     }
 }
 
-// Reads until the input ends, also where a pipe gives it in short pieces. The case is at the start of the buffer.
-fn read_input(stdin: &mut impl Read, buffer: &mut [u8]) -> Input {
+// Reads until the input ends, also where a pipe gives it in short pieces. The case is at the start of the buffer; its size is answered.
+fn read_input(stdin: &mut impl Read, buffer: &mut [u8]) -> Result<usize, InputError> {
     let mut done: usize = 0;
+    // A place stays: a read takes as many bytes as it has, so no `for` counts the turns.
     while done < buffer.len() {
         let Ok(n) = stdin.read(&mut buffer[done..]) else {
-            return Input::Unreadable;
+            return Err(InputError::Unreadable);
         };
         if n == 0 {
-            return Input::Case(done);
+            return Ok(done);
         }
         done += n;
     }
@@ -87,9 +87,9 @@ fn report_start(rt: &impl Print, manner: Manner, buffer: &[u8], size: usize) -> 
 fn report_input(rt: &(impl io::Input + Print + Eprint), manner: Manner) -> io::Result<()> {
     let mut buffer = [0u8; 32768];
     match read_input(&mut rt.reader(), &mut buffer) {
-        Input::Case(size) => report_start(rt, manner, &buffer, size),
-        Input::TooLong => print_line(rt, Report::TooLong, b""),
-        Input::Unreadable => eprintln!(rt; "npe: standard input cannot be read"),
+        Ok(size) => report_start(rt, manner, &buffer, size),
+        Err(InputError::TooLong) => print_line(rt, Report::TooLong, b""),
+        Err(InputError::Unreadable) => eprintln!(rt; "npe: standard input cannot be read"),
     }
 }
 
@@ -126,9 +126,8 @@ fn main(rt: HostRuntime) -> io::Result<()> {
         );
     };
     let model = asked.model;
-    let wording = asked.wording;
-    match wording {
-        Some(wording) => report_input(&rt, Manner { model, wording }),
-        None => print_line(&rt, Report::NoWording, b""),
-    }
+    let Some(wording) = asked.wording else {
+        return print_line(&rt, Report::NoWording, b"");
+    };
+    report_input(&rt, Manner { model, wording })
 }

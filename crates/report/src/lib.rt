@@ -84,8 +84,7 @@ pub fn report_parts_in(
         out.old result out.new }
     ensures clears { stack.new ≡ replicate (length stack.old) 0 }
 {
-    let Some(Fault { action, depth }) = fault::decode_fault(code, members, member_count, at)
-    else {
+    let Some(Fault { action, depth }) = fault::decode_fault(code, members, member_count, at) else {
         clear(stack);
         return Report::NoMessage;
     };
