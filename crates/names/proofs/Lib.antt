@@ -1,2 +1,3 @@
 pub mod Bytewise
+pub mod Eight
 pub mod Left

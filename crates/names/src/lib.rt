@@ -1,32 +1,79 @@
 // Class names, type names and parameter lists, as the messages print them (document 01, "Action and cause").
 #![tactic(auto)]
 
-ghost use Rattle.std.specs.Prelude.{◌≡◌, ◌++◌, ◌%◌, ◌≤◌, eqb, length};
+ghost use Rattle.std.specs.Prelude.{◌≡◌, [], ◌++◌, ◌%◌, ◌≤◌, ◌<◌, eqb, length, take, get_or};
 ghost use Rattle.basics.specs.Choice.{pick};
 ghost use Rattle.text.specs.Writing.{Written};
 ghost use Rattle.names.specs.Commas.{comma_before};
-ghost use Rattle.names.specs.Names.{base_name, bracket_pairs, element_name, type_name, parameter_names};
+ghost use Rattle.names.specs.Names.{base_names, base_name, bracket_pairs, element_name, type_name, parameter_names};
 
+use bytesearch::find_byte;
 use classname::put_class_name;
 use fieldtype::FieldType;
 use text::{put, put_at};
 
-// The name of the base type with a letter, none where there is no such type.
-#[tactic(auto, unfolding(crate::specs::Names::base_name, crate::specs::Names::base_names, bytesearch::specs::Search::first_from, bytesearch::specs::Search::first_in))]
-fn base_name(letter: u8) -> &'static [u8]
-    ensures { result.now ≡ base_name letter }
+// A base type's name: its length, its bytes and zeros.
+#[derive(Clone, Copy)]
+pub struct BaseName {
+    pub len: usize,
+    pub bytes: [u8; 7],
+}
+
+// In the order of the letters B C D F I J S Z. A place stays: document 01 asks for one constant table of names and lengths ("Expected form
+// in each place"), so this is no `match`.
+const BASE_NAMES: [BaseName; 8] = [
+    BaseName {
+        len: 4,
+        bytes: *b"byte\0\0\0",
+    },
+    BaseName {
+        len: 4,
+        bytes: *b"char\0\0\0",
+    },
+    BaseName {
+        len: 6,
+        bytes: *b"double\0",
+    },
+    BaseName {
+        len: 5,
+        bytes: *b"float\0\0",
+    },
+    BaseName {
+        len: 3,
+        bytes: *b"int\0\0\0\0",
+    },
+    BaseName {
+        len: 4,
+        bytes: *b"long\0\0\0",
+    },
+    BaseName {
+        len: 5,
+        bytes: *b"short\0\0",
+    },
+    BaseName {
+        len: 7,
+        bytes: *b"boolean",
+    },
+];
+
+fn base_row(k: usize) -> BaseName
+    requires { k < 8 }
+    ensures { (take result.len result.bytes ≡ get_or base_names k []) × (result.len ≤ 7) × (length result.bytes ≡ 7) }
 {
-    match letter {
-        b'B' => b"byte",
-        b'C' => b"char",
-        b'D' => b"double",
-        b'F' => b"float",
-        b'I' => b"int",
-        b'J' => b"long",
-        b'S' => b"short",
-        b'Z' => b"boolean",
-        _ => b"",
-    }
+    BASE_NAMES[k]
+}
+
+// Writes the name of a base type over the start of the output. Answers its length.
+fn put_base_name(out: &mut [u8], letter: u8) -> usize
+    ensures { Written 0 (base_name letter) out.old result out.new }
+{
+    let Some(k) = find_byte(b"BCDFIJSZ", letter, 0) else {
+        return 0;
+    };
+    let row = base_row(k);
+    let bytes = row.bytes;
+    let len = row.len;
+    put(out, &bytes[..len])
 }
 
 // Writes a pair of brackets for each dimension over the start of the output. Answers their length.
@@ -56,7 +103,7 @@ fn put_element(out: &mut [u8], descriptor: &[u8], t: FieldType) -> usize
     if t.letter == b'L' {
         return put_class_name(out, &descriptor[t.from..t.to]);
     }
-    put(out, base_name(t.letter))
+    put_base_name(out, t.letter)
 }
 
 fn put_element_at(out: &mut [u8], at: usize, descriptor: &[u8], t: FieldType) -> usize
