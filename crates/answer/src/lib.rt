@@ -10,7 +10,8 @@ use fault::Action;
 use message::put_message_at;
 use words::Wording;
 
-// What a report answers, by document 01's numbers 0 to 5 and document 02's 11.
+// What a report answers, by document 01's numbers 0 to 5 and document 02's 11. A place stays: README and docs/ name these answers, one for
+// each number, and a caller tells each apart.
 #[derive(Clone, Copy)]
 pub enum Report {
     Message {

@@ -24,7 +24,8 @@ pub struct Manner {
     pub wording: Wording,
 }
 
-// 0 asks for document 01's model, any other number for the full one.
+// 0 asks for document 01's model, any other number for the full one. A place stays: the number is C's, which crate effects, where the model
+// lies, knows nothing of; so this is no `From`.
 pub fn model_by(full: usize) -> Model
     ensures { result ≡ model_by full }
 {

@@ -92,6 +92,7 @@ pub fn is_modified(text: &[u8]) -> bool
     ensures { result ≡ is_modified text.now }
 {
     let mut i: usize = 0;
+    // A place stays: a turn passes as many bytes as a character has.
     while i < text.len() {
         let size = unit_size(byte_at(text, i), byte_at(text, i + 1), byte_at(text, i + 2));
         if size == 0 {
@@ -223,6 +224,7 @@ pub fn put_turned_at(out: &mut [u8], at: usize, text: &[u8]) -> usize
 {
     let mut i: usize = 0;
     let mut next = at;
+    // A place stays: a turn passes as many bytes as a character has.
     while i < text.len() {
         let turn = turn_at(text, i);
         let taken = turn.taken;
