@@ -47,6 +47,7 @@ fn digit_of(byte: u8) -> usize
 }
 
 // A number in decimal digits. From 1000 on it stays: no wording has such a number.
+// The rest is read all the same: a byte that is no digit makes the word Other.
 fn read_decimal(text: &[u8]) -> Word
     ensures { result ≡ decimal_in text.now }
 {
@@ -54,14 +55,12 @@ fn read_decimal(text: &[u8]) -> Word
         return Word::Other;
     }
     let mut value: usize = 0;
-    let mut i = 0;
-    while i < text.len() {
-        let digit = digit_of(text[i]);
+    for byte in text {
+        let digit = digit_of(*byte);
         if 9 < digit {
             return Word::Other;
         }
         value = (10 * value + digit).min(1000);
-        i += 1;
     }
     Word::Number(wording_by(value))
 }

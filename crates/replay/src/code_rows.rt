@@ -38,10 +38,8 @@ fn put_cell(out: &mut [u8], at: usize, cell: u64) -> usize {
 
 fn put_cells(out: &mut [u8], cells: &[u64]) -> usize {
     let mut end = 0;
-    let mut i = 0;
-    while i < cells.len() {
-        end = put_cell(out, end, cells[i]);
-        i += 1;
+    for cell in cells {
+        end = put_cell(out, end, *cell);
     }
     end
 }

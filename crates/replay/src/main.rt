@@ -118,13 +118,11 @@ fn replay(rt: &(impl Files + Print), file: &[u8], buffer: &mut [u8]) -> io::Resu
     let mut at: usize = 0;
     let mut members = file.len();
     let mut agreeing: usize = 0;
-    let mut left = file.len();
-    while 0 < left {
+    for _ in 0..file.len() {
         let line = part_to(file, at, b'\n');
         members = later(line, at, members);
         agreeing += agreed(rt, line, part_to(file, members, b'\n'), buffer)?;
         at = after(at, line);
-        left -= 1;
     }
     Ok(agreeing)
 }
@@ -157,12 +155,10 @@ fn show_named(rt: &(impl Files + Print), name: &[u8]) -> io::Result<()> {
 // Shows each file of a list, a line each. There are no more lines than bytes, and behind the last there is no name.
 fn show_all(rt: &(impl Files + Print), names: &[u8]) -> io::Result<()> {
     let mut at: usize = 0;
-    let mut left = names.len();
-    while 0 < left {
+    for _ in 0..names.len() {
         let name = part_to(names, at, b'\n');
         show_named(rt, name)?;
         at = after(at, name);
-        left -= 1;
     }
     Ok(())
 }

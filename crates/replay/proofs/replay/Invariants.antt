@@ -1,10 +1,7 @@
--- `replay::replay` meets its contract. Each turn counts one row at most, and there are no more turns than bytes.
+-- `replay::replay` meets its contract. Each turn counts one row at most.
 -- Assumes nothing.
-use Rattle.std.proofs.Common.{◌≡◌, ◌+◌, ◌≤◌, length}
+use Rattle.std.proofs.Common.{◌≤◌}
 use Rattle.replay.proofs.replay.Given as goal
 
-abbrev pub invariant-loop-left : goal.invariant-loop-left
-invariant-loop-left g l = (l.agreeing + l.left ≤ length l.file) × (length l.buffer ≡ length l.initial.buffer)
-
-abbrev pub decreases-loop-left : goal.decreases-loop-left
-decreases-loop-left g l = l.left
+abbrev pub invariant-loop : goal.invariant-loop
+invariant-loop g l = l.agreeing ≤ l.counter
