@@ -6,7 +6,7 @@ ghost use Rattle.std.specs.Prelude.{◌≡◌, ◌≤◌, length};
 ghost use Rattle.cases.specs.LaidOut.{records_bytes};
 ghost use Rattle.text.specs.Writing.{Written};
 ghost use Rattle.answer.specs.Answer.{Delivered};
-ghost use Rattle.classmessage.specs.Message.{longest_record, longest_texts, found_count, record_by, texts_bytes, LaidIn, said_from};
+ghost use Rattle.classmessage.specs.Message.{longest_record, found_count, record_by, texts_bytes, LaidIn, said_from};
 
 use answer::{Report, write_message};
 use cell::Load;
@@ -21,6 +21,9 @@ use words::Wording;
 
 // Nearly all texts of a message have room in so many bytes.
 const USUAL: usize = 4096;
+
+// All texts have: each has at most 65,535 bytes.
+const LONGEST: usize = 393266;
 
 // What a message takes from the file: the pool number of the member that the faulting instruction cites; the record that names the local
 // of its cause, and the slot of that local; the pool numbers of the method's name and of its descriptor.
@@ -135,8 +138,8 @@ fn write_in(
     )
 }
 
-// In a room that nearly all texts fit.
-fn write_usual(
+// In a room of so many bytes, which the texts fit.
+fn write_within<const N: usize>(
     out: &mut [u8],
     wording: Wording,
     file: &[u8],
@@ -144,26 +147,11 @@ fn write_usual(
     texts: Texts,
     failure: Failure,
 ) -> Report
-    requires { length (texts_bytes file.now table.now texts) ≤ 4096 }
+    requires fits { length (texts_bytes file.now table.now texts) ≤ N }
+    requires n_in_bounds { N ≤ LONGEST }
     ensures { Delivered (said_from file.now table.now wording texts failure) out.old result out.new }
 {
-    let mut room = [0u8; 4096];
-    write_in(&mut room, out, wording, file, table, texts, failure)
-}
-
-// In a room that all texts fit: each has at most 65,535 bytes.
-fn write_longest(
-    out: &mut [u8],
-    wording: Wording,
-    file: &[u8],
-    table: &[usize],
-    texts: Texts,
-    failure: Failure,
-) -> Report
-    requires { length (texts_bytes file.now table.now texts) ≤ longest_texts }
-    ensures { Delivered (said_from file.now table.now wording texts failure) out.old result out.new }
-{
-    let mut room = [0u8; 393266];
+    let mut room = [0u8; N];
     write_in(&mut room, out, wording, file, table, texts, failure)
 }
 
@@ -181,7 +169,7 @@ pub fn write_from(
     let mut nothing = [0u8; 0];
     let laid = lay_texts(&mut nothing, file, table, texts);
     if laid.signature <= USUAL {
-        return write_usual(out, wording, file, table, texts, failure);
+        return write_within::<USUAL>(out, wording, file, table, texts, failure);
     }
-    write_longest(out, wording, file, table, texts, failure)
+    write_within::<LONGEST>(out, wording, file, table, texts, failure)
 }

@@ -22,6 +22,12 @@ use reads::read_u16;
 // The longest file that is read.
 const LONGEST: usize = 1048576;
 
+// A table of so many cells is soon cleared, and most pools have no more numbers.
+const FEW: usize = 1024;
+
+// No pool has more numbers: their count is a number of two bytes.
+const ALL: usize = 65536;
+
 // Why the methods of a file are not listed.
 #[derive(Clone, Copy)]
 pub enum ListError {
@@ -136,21 +142,13 @@ fn list_with(file: &[u8], table: &mut [usize], numbers: &mut [u64]) -> Result<us
     Ok(count)
 }
 
-// Lists a file whose pool has at most 1,024 numbers, by a table that is soon cleared.
-fn list_small(file: &[u8], numbers: &mut [u64]) -> Result<usize, ListError>
-    requires { u16_at file.now 8 ≤ 1024 }
+// Lists by a table of so many cells.
+fn list_within<const N: usize>(file: &[u8], numbers: &mut [u64]) -> Result<usize, ListError>
+    requires fits { u16_at file.now 8 ≤ N }
+    requires n_in_bounds { N ≤ ALL }
     ensures { Delivered file.now numbers.old result numbers.new }
 {
-    let mut table = [0usize; 1024];
-    list_with(file, &mut table, numbers)
-}
-
-// Lists a file whose pool has any count of numbers, which is one of two bytes.
-fn list_large(file: &[u8], numbers: &mut [u64]) -> Result<usize, ListError>
-    requires { u16_at file.now 8 ≤ 65536 }
-    ensures { Delivered file.now numbers.old result numbers.new }
-{
-    let mut table = [0usize; 65536];
+    let mut table = [0usize; N];
     list_with(file, &mut table, numbers)
 }
 
@@ -162,8 +160,8 @@ pub fn list_methods(file: &[u8], numbers: &mut [u64]) -> Result<usize, ListError
     if LONGEST < file.len() {
         return Err(ListError::TooLong);
     }
-    if read_u16(file, 8) <= 1024 {
-        return list_small(file, numbers);
+    if read_u16(file, 8) <= FEW {
+        return list_within::<FEW>(file, numbers);
     }
-    list_large(file, numbers)
+    list_within::<ALL>(file, numbers)
 }

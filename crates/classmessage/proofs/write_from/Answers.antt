@@ -4,5 +4,5 @@ use native.Mathlib.Omega.{arith}
 use Rattle.citing.proofs.Room.{measured}
 use Rattle.classmessage.proofs.write_from.Goals as goal
 
-pub write_usual-requires : goal.write_usual-requires
-write_usual-requires c = measured c.lay_texts-laid.ensures.whole c.if-laid-le-USUAL.true (omega arith)
+pub write_within-requires-clause-fits : goal.write_within-requires-clause-fits
+write_within-requires-clause-fits c = measured c.lay_texts-laid.ensures.whole c.if-laid-le-USUAL.true (omega arith)

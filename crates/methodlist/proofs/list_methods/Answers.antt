@@ -11,12 +11,12 @@ unfolding list_answer list_output
 returns-then-file-gt-LONGEST c =
     let long = lt-ltb longest (length c.args.file.now) c.if-file-gt-LONGEST.true in record { answers = rw long; leaves = rw long }
 
-pub returns-then-read_u16-le1024 : goal.returns-then-read_u16-le1024
+pub returns-then-read_u16-le-FEW : goal.returns-then-read_u16-le-FEW
 unfolding list_answer list_output
-returns-then-read_u16-le1024 c =
-    let short = le-ltb longest (length c.args.file.now) c.if-file-gt-LONGEST.false in record { answers = rw short c.list_small.ensures.answers; leaves = rw short c.list_small.ensures.leaves }
+returns-then-read_u16-le-FEW c =
+    let short = le-ltb longest (length c.args.file.now) c.if-file-gt-LONGEST.false in record { answers = rw short c.list_within.ensures.answers; leaves = rw short c.list_within.ensures.leaves }
 
 pub returns : goal.returns
 unfolding list_answer list_output
 returns c =
-    let short = le-ltb longest (length c.args.file.now) c.if-file-gt-LONGEST.false in record { answers = rw short c.list_large.ensures.answers; leaves = rw short c.list_large.ensures.leaves }
+    let short = le-ltb longest (length c.args.file.now) c.if-file-gt-LONGEST.false in record { answers = rw short c.list_within-2.ensures.answers; leaves = rw short c.list_within-2.ensures.leaves }
