@@ -27,9 +27,7 @@ fn put_cause_at(
         return at;
     };
     let start = put_at(out, at, b" because \"");
-    let end = locals::describe_local(
-        out, start, records, count, signature, instance, local, load,
-    );
+    let end = locals::describe_local(out, start, records, count, signature, instance, local, load);
     put_at(out, end, b"\" is null")
 }
 
