@@ -12,7 +12,10 @@ pub fn put(out: &mut [u8], part: &[u8]) -> usize
     ensures { Written 0 part.now out.old result out.new }
 {
     let room = part.len().min(out.len());
-    out[..room].copy_from_slice(&part[..room]);
+    // A place stays: `copy_from_slice` is a call of `memmove`, which the archive then needs from outside, and takes longer for short parts.
+    for i in 0..room {
+        out[i] = part[i];
+    }
     part.len()
 }
 
