@@ -91,7 +91,9 @@ fn within(code: &[u8], pc: usize, bytes: usize) -> Result<usize, Unmeasured>
     }
 }
 
-// The length of the instruction at pc: its bytes, the opcode among them.
+// The length of the instruction at pc: its bytes, the opcode among them. Its answer would be handed back through memory, so it is part of
+// its callers.
+#[inline(always)]
 pub fn instruction_length(code: &[u8], pc: usize) -> Result<usize, Unmeasured>
     ensures { result ≡ length_of code.now pc }
 {
