@@ -131,7 +131,7 @@ one_byte_more text out i inside room =
     ∙ ap (λ (l : List ℕ). over l out) (sym (rw add-one (take-suc text i 0 inside)))
 
 -- as many bytes as fit are all that is written
-pub all_that_fits : (text out : List ℕ) → over (take (min (length text) (length out)) text) out ≡ over text out
+all_that_fits : (text out : List ℕ) → over (take (min (length text) (length out)) text) out ≡ over text out
 unfolding over
 all_that_fits [] out = let z : min 0 (length out) ≡ 0 = omega arith in rw z
 all_that_fits (x ∷ text) [] = let z : min (suc (length text)) 0 ≡ 0 = omega arith in rw z
@@ -139,26 +139,16 @@ all_that_fits (x ∷ text) (y ∷ out) =
     let s : min (suc (length text)) (suc (length out)) ≡ suc (min (length text) (length out)) = omega arith in
     rw s (ap (λ (l : List ℕ). x ∷ l) (all_that_fits text out))
 
--- written over the start of an output, as far as that reaches
-pub written_over : (text out after : List ℕ) (n : ℕ) → n ≡ min (length text) most → after ≡ over text out → Written 0 text out n after
-unfolding following splice
-written_over text out after n n-is is = record { place = omega (arith, n-is); bytes = is }
-
 -- a loop that wrote all that fits over the start of an output
 pub written_by_bytes :
     (text out after : List ℕ) (i n : ℕ) → i ≡ min (length text) (length out) → n ≡ min (length text) most →
     after ≡ over (take i text) out → Written 0 text out n after
-written_by_bytes text out after i n i-is n-is is =
-    written_over text out after n n-is (is ∙ ap (λ (k : ℕ). over (take k text) out) i-is ∙ all_that_fits text out)
-
--- a copy of all that fits
-pub copied_over : (text out : List ℕ) → take (min (length text) (length out)) text ++ drop (min (length text) (length out)) out ≡ over text out
-unfolding over
-copied_over [] out = let z : min 0 (length out) ≡ 0 = omega arith in rw z
-copied_over (x ∷ text) [] = let z : min (suc (length text)) 0 ≡ 0 = omega arith in rw (z, append-nil)
-copied_over (x ∷ text) (y ∷ out) =
-    let s : min (suc (length text)) (suc (length out)) ≡ suc (min (length text) (length out)) = omega arith in
-    rw s (ap (λ (l : List ℕ). x ∷ l) (copied_over text out))
+unfolding following splice
+written_by_bytes text out after i n i-is n-is after_is =
+    record {
+      place = omega (arith, n-is);
+      bytes = after_is ∙ ap (λ (k : ℕ). over (take k text) out) i-is ∙ all_that_fits text out;
+    }
 
 -- ---- a lent part
 
