@@ -1,6 +1,6 @@
 -- `copies::copy_below` meets its contract. Too few cells in one of four ways, or two moves of cells.
 -- Assumes nothing.
-use Prim.Native.Nat.{◌+◌, ◌-◌, ◌<◌}
+use Prim.Native.Nat.{◌+◌, ◌<◌}
 use native.Mathlib.Omega.{arith}
 use lib.ListN.{length}
 use borrow.Author.Tests.{le-leb, lt-leb}
@@ -42,4 +42,4 @@ returns c =
       c.copy_within-2.ensures.after,
       c.copy_within.ensures.after,
     )
-    (copying.copies_are a.cells.now a.height a.count a.under (a.height - a.count - a.under) (omega arith) (omega arith))
+    (copying.copies_are a.cells.now a.height a.count a.under _ (omega arith) (omega arith))
